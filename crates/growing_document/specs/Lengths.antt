@@ -6,7 +6,7 @@ use Rattle.marked_automaton.specs.Automaton.{Automaton, Marked}
 use Rattle.marked_automaton.specs.Reduct.{Reduces}
 use Rattle.automaton_reading.specs.Reading.{LookUp, weight_K}
 use Rattle.growing_document.specs.Faults.{IsAppendFault, IsRowsFault}
-use Rattle.growing_document.specs.Grown.{Grown, IsAppended, IsAsked, at_start}
+use Rattle.growing_document.specs.Grown.{Grown, IsAppended, HasAskedRows, at_start}
 use Rattle.growing_document.specs.Numbers.{end_look_ups, end_look_ups_at, weight_with}
 use Rattle.growing_document.specs.declared.fault.GrowFault.TheVariants.{Full}
 
@@ -37,7 +37,7 @@ pub record IsAskedAt (g : Grown) (lengths : List ℕ) : Type 0 where
 pub record LengthsLaw : Type 0 where
   pub start : (A : Marked) (limit : ℕ) → IsAskedAt (at_start A limit) []
   pub appended : (old new : Grown) (piece lengths : List ℕ) → IsAskedAt old lengths → IsAppended old piece new → IsAskedAt new lengths
-  pub asked : (old new : Grown) (lengths : List ℕ) → IsAskedAt old lengths → IsAsked old new → IsAskedAt new (length old.document ∷ lengths)
+  pub asked : (old new : Grown) (lengths : List ℕ) → IsAskedAt old lengths → HasAskedRows old new → IsAskedAt new (length old.document ∷ lengths)
   pub append_full : (g : Grown) (piece lengths : List ℕ) (weight : ℕ) → IsAskedAt g lengths → IsAppendFault g piece (Full weight) →
       (g.limit < weight) × (weight ≤ weight_at g.automaton.graph (g.document ++ piece) lengths)
   pub rows_full : (g : Grown) (lengths : List ℕ) (weight : ℕ) → IsAskedAt g lengths → IsRowsFault g (Full weight) →

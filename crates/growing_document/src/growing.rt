@@ -5,8 +5,8 @@ ghost use Rattle.std.specs.Prelude.{◌≡◌, ℕ, ◌+◌, ◌*◌, ◌^◌, �
 ghost use Rattle.marked_automaton.specs.Automaton.{size};
 ghost use Rattle.growing_document.specs.declared.fault.GrowFault.TheVariants.{Spent, TooLong};
 ghost use Rattle.growing_document.specs.Faults.{IsAppendFault, IsRowsFault, IsWeightFault, left_by};
-ghost use Rattle.growing_document.specs.Grown.{AcceptsRows, AreRowsRead, IsAppended, IsAsked, IsGrown, at_start, charge, credit, rows_steps};
-ghost use Rattle.growing_document.specs.Inside.{IsInside, seen};
+ghost use Rattle.growing_document.specs.Grown.{AcceptsRows, AreRowsRead, IsAppended, HasAskedRows, IsGrown, at_start, charge, credit, rows_steps};
+ghost use Rattle.growing_document.specs.Inside.{IsHeldReading, seen};
 ghost use Rattle.growing_document.specs.Numbers.{end_look_ups};
 
 use crate::GrowFault;
@@ -47,11 +47,11 @@ impl Model for Growing {
 
     ghost coded = { grown_code };
 
-    ghost use Rattle.growing_document.specs.Inside.{IsInside, seen};
+    ghost use Rattle.growing_document.specs.Inside.{IsHeldReading, seen};
 
     ghost view = { λ g. seen g.automaton g.limit g.document.items g.reading };
 
-    ghost invariant = { λ g. IsInside g.automaton g.limit g.document.items g.reading };
+    ghost invariant = { λ g. IsHeldReading g.automaton g.limit g.document.items g.reading };
 }
 
 impl Growing {
@@ -131,7 +131,7 @@ impl Growing {
         ensures rows { IfOk result (λ e. AreRowsRead self.old.automaton self.old.document e.whole) }
         ensures first { IfOk result (λ e. e.rest ≡ e.whole) }
         ensures variables { IfOk result (λ e. e.variables ≡ length self.old.automaton.names) }
-        ensures asked { IsAsked self.old self.new }
+        ensures asked { HasAskedRows self.old self.new }
         ensures steps { self.old.spent ≡ false → steps.new + length (end_look_ups self.old.look_ups) * size self.old.automaton.graph ≤ steps.old + rows_steps self.old + length (end_look_ups self.new.look_ups) * size self.old.automaton.graph }
         ensures spent { self.old.spent ≡ true → IsErrOf result Spent }
         ensures fault { IfErr result (IsRowsFault self.old) }
@@ -156,8 +156,8 @@ fn append_to<L: Ledger>(
     piece: &[u8],
     steps: &mut Steps<L>,
 ) -> Result<(), GrowFault>
-    requires { IsInside automaton.now limit document.old.items reading.old }
-    ensures inside { IsInside automaton.now limit document.new.items reading.new }
+    requires { IsHeldReading automaton.now limit document.old.items reading.old }
+    ensures inside { IsHeldReading automaton.now limit document.new.items reading.new }
     ensures appended { OnOk result (IsAppended (seen automaton.now limit document.old.items reading.old) piece.now (seen automaton.now limit document.new.items reading.new)) }
     ensures steps { OnOk result (steps.new + credit (seen automaton.now limit document.new.items reading.new) + charge (seen automaton.now limit document.old.items reading.old) ≤ steps.old + credit (seen automaton.now limit document.old.items reading.old) + charge (seen automaton.now limit document.new.items reading.new)) }
     ensures spent { (seen automaton.now limit document.old.items reading.old).spent ≡ true → IsErrOf result Spent }
@@ -191,7 +191,7 @@ fn append_to<L: Ledger>(
 
 /// How many cells are live.
 fn live_of(automaton: &Automaton, limit: u64, document: &Vec<u8>, reading: &Option<Laid>) -> u64
-    requires { IsInside automaton.now limit document.now.items reading.now }
+    requires { IsHeldReading automaton.now limit document.now.items reading.now }
     ensures value { result ≡ (seen automaton.now limit document.now.items reading.now).live }
     ensures grown { IsGrown (seen automaton.now limit document.now.items reading.now) }
 {
@@ -212,12 +212,12 @@ fn rows_of<L: Ledger>(
     reading: &mut Option<Laid>,
     steps: &mut Steps<L>,
 ) -> Result<Enumerator, GrowFault>
-    requires { IsInside automaton.now limit document.now.items reading.old }
-    ensures inside { IsInside automaton.now limit document.now.items reading.new }
+    requires { IsHeldReading automaton.now limit document.now.items reading.old }
+    ensures inside { IsHeldReading automaton.now limit document.now.items reading.new }
     ensures rows { IfOk result (λ e. AreRowsRead automaton.now document.now.items e.whole) }
     ensures first { IfOk result (λ e. e.rest ≡ e.whole) }
     ensures variables { IfOk result (λ e. e.variables ≡ length automaton.now.names) }
-    ensures asked { IsAsked (seen automaton.now limit document.now.items reading.old) (seen automaton.now limit document.now.items reading.new) }
+    ensures asked { HasAskedRows (seen automaton.now limit document.now.items reading.old) (seen automaton.now limit document.now.items reading.new) }
     ensures steps { (seen automaton.now limit document.now.items reading.old).spent ≡ false → steps.new + length (end_look_ups (seen automaton.now limit document.now.items reading.old).look_ups) * size automaton.now.graph ≤ steps.old + rows_steps (seen automaton.now limit document.now.items reading.old) + length (end_look_ups (seen automaton.now limit document.now.items reading.new).look_ups) * size automaton.now.graph }
     ensures spent { (seen automaton.now limit document.now.items reading.old).spent ≡ true → IsErrOf result Spent }
     ensures fault { IfErr result (IsRowsFault (seen automaton.now limit document.now.items reading.old)) }

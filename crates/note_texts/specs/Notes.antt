@@ -29,8 +29,8 @@ abbrev pub at_place : List ℕ → ℕ → List ℕ
 at_place what at = what ++ decimal at
 
 -- a number between two texts
-abbrev pub counted : List ℕ → ℕ → List ℕ → List ℕ
-counted before number after = at_place before number ++ after
+abbrev pub number_between : List ℕ → ℕ → List ℕ → List ℕ
+number_between before number after = at_place before number ++ after
 
 -- a variable, between two texts
 abbrev pub about : List ℕ → List ℕ → List ℕ → List ℕ
@@ -66,8 +66,8 @@ fault_note (query.UnknownName at) = at_place (codes "query: unknown name at ") a
 fault_note (query.NameTwice at) = at_place (codes "query: name twice at ") at
 fault_note (query.NameTooLong at) = at_place (codes "query: name too long at ") at
 fault_note (query.UnknownVariable x) = about (codes "query: no variable ") x (codes " to keep")
-fault_note query.TooManyVariables = counted (codes "query: more than ") MOST_VARIABLES (codes " variables")
-fault_note query.TooLong = counted (codes "query: longer than ") MOST_TEXT_BYTES (codes " bytes")
+fault_note query.TooManyVariables = number_between (codes "query: more than ") MOST_VARIABLES (codes " variables")
+fault_note query.TooLong = number_between (codes "query: longer than ") MOST_TEXT_BYTES (codes " bytes")
 fault_note (query.TooDeep at) = at_place (codes "query: too deep at ") at
 fault_note query.OutOfMemory = codes "out of memory"
 fault_note (query.JoinUnsure x) = about (codes "query: variable ") x (codes " not sure on both sides of join")
@@ -77,10 +77,10 @@ fault_note (query.MinusVariables x) = about (codes "query: variable ") x (codes 
 
 -- sizes of automata
 abbrev pub states_note : List ℕ
-states_note = counted (codes "size: more than ") MOST_STATES (codes " states")
+states_note = number_between (codes "size: more than ") MOST_STATES (codes " states")
 
 abbrev pub ways_note : List ℕ
-ways_note = counted (codes "size: more than ") MOST_WAYS (codes " ways")
+ways_note = number_between (codes "size: more than ") MOST_WAYS (codes " ways")
 
 abbrev pub size_note : SizeFault → List ℕ
 size_note (size.States count) = states_note
@@ -117,9 +117,9 @@ abbrev pub note_text : Note → List ℕ
 note_text (note.Fixed always) = fixed_text always
 note_text (note.More cursor) = codes "more " ++ cursor.now
 note_text (note.Query fault) = fault_note fault.now
-note_text (note.QueryTooLong most) = counted (codes "query: longer than ") most (codes " bytes")
-note_text (note.DocumentTooLong most) = counted (codes "document longer than ") most (codes " bytes")
-note_text (note.RequestTooLong most) = counted (codes "request longer than ") most (codes " bytes")
+note_text (note.QueryTooLong most) = number_between (codes "query: longer than ") most (codes " bytes")
+note_text (note.DocumentTooLong most) = number_between (codes "document longer than ") most (codes " bytes")
+note_text (note.RequestTooLong most) = number_between (codes "request longer than ") most (codes " bytes")
 note_text (note.Size fault) = size_note fault.now
 note_text (note.OtherDocument kept found) = other_document_note kept found
 note_text (note.Table limit) = table_note limit

@@ -3,7 +3,7 @@ ghost use Rattle.std.specs.Prelude.{◌≡◌, ◌++◌, codes, OnOk, OnErr};
 ghost use Rattle.std.specs.Fmt.{decimal};
 ghost use Rattle.std.specs.Str.{IsUtf8};
 ghost use Rattle.span_core.specs.Lists.{IsPrefixOf};
-ghost use Rattle.note_texts.specs.Notes.{QuotesUtf8, about, at_place, check_note, counted, fault_note, fixed_text, formula_note, note_text, size_note};
+ghost use Rattle.note_texts.specs.Notes.{QuotesUtf8, about, at_place, check_note, number_between, fault_note, fixed_text, formula_note, note_text, size_note};
 
 use crate::note::{FixedNote, Note};
 use cell_text::push_bytes;
@@ -223,9 +223,9 @@ fn push_counted(
     after: &str,
     out: &mut Vec<u8>,
 ) -> Result<(), OutOfMemory>
-    ensures ok { OnOk result (out.new.items ≡ out.old.items ++ counted before.now number after.now) }
+    ensures ok { OnOk result (out.new.items ≡ out.old.items ++ number_between before.now number after.now) }
     ensures front { IsPrefixOf out.old.items out.new.items }
-    ensures utf8 { IsUtf8 (counted before.now number after.now) }
+    ensures utf8 { IsUtf8 (number_between before.now number after.now) }
 {
     let last = after.as_bytes();
     push_number(before, number, out)?;

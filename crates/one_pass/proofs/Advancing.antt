@@ -18,7 +18,7 @@ use Rattle.one_pass.specs.declared.known.Known.{Known}
 use Rattle.one_pass.specs.declared.search.Search.{Search}
 use Rattle.one_pass.specs.Ahead.{KnowsWaiting}
 use Rattle.one_pass.specs.Known.{Knows}
-use Rattle.one_pass.specs.Going.{GivesUp, GoesOn, IsAdvanced, Reads, come}
+use Rattle.one_pass.specs.Going.{GivesUp, GoesOn, IsAdvanced, PassReads, come}
 use Rattle.one_pass.specs.Layers.{no_source, source_at}
 use Rattle.one_pass.specs.Places.{ReadingPlace, byte_at, bytes_at}
 use Rattle.one_pass.specs.Passes.{AllLeadBack}
@@ -36,8 +36,8 @@ advanced_none {t} {p} {n} goes knows waits = record {
 
 module _ {t0 : Tabled} {p0 : Pass} {n0 : ℕ} {piece : List ℕ} {i : ℕ} {t : Tabled} {p : Pass} {n : ℕ} (past : IsAdvanced t0 p0 n0 piece i t p n) where
   -- all have been read
-  pub advanced_all : i ≡ length piece → Reads (bytes_at p0.at piece) t0 p0 n0 t p n
-  advanced_all full = subst (λ xs. Reads (bytes_at p0.at xs) t0 p0 n0 t p n) (ap (λ j. take j piece) full ∙ take-length piece) past.reads
+  pub advanced_all : i ≡ length piece → PassReads (bytes_at p0.at piece) t0 p0 n0 t p n
+  advanced_all full = subst (λ xs. PassReads (bytes_at p0.at xs) t0 p0 n0 t p n) (ap (λ j. take j piece) full ∙ take-length piece) past.reads
 
   -- something else is searched for
   pub advanced_so : {search : Search} → KnowsWaiting t.graph.ways search.ahead.waiting → IsAdvanced t0 p0 n0 piece i t (record { graph = p.graph; known = p.known; search = search; at = p.at }) n
@@ -57,11 +57,11 @@ module _ {t0 : Tabled} {p0 : Pass} {n0 : ℕ} {piece : List ℕ} {i : ℕ} {t : 
     here = byte_at (p0.at + i) b ∷ []
 
     -- one byte more has been read
-    pub advanced_more : {u : Tabled} {q : Pass} {m : ℕ} → Reads (byte_at p.at b ∷ []) t p n u q m → q.at ≡ p.at + 1 → IsAdvanced t0 p0 n0 piece (i + 1) u q m
+    pub advanced_more : {u : Tabled} {q : Pass} {m : ℕ} → PassReads (byte_at p.at b ∷ []) t p n u q m → q.at ≡ p.at + 1 → IsAdvanced t0 p0 n0 piece (i + 1) u q m
     advanced_more {u} {q} {m} one next = record {
       reads =
-          subst (λ ps. Reads ps t0 p0 n0 u q m) (sym (bytes_more p0.at piece i within b refl))
-          (both_reads front here past.reads (subst (λ j. Reads (byte_at j b ∷ []) t p n u q m) past.at one));
+          subst (λ ps. PassReads ps t0 p0 n0 u q m) (sym (bytes_more p0.at piece i within b refl))
+          (both_reads front here past.reads (subst (λ j. PassReads (byte_at j b ∷ []) t p n u q m) past.at one));
       at = omega (arith, next, past.at);
     }
 
@@ -74,7 +74,7 @@ module _ {t0 : Tabled} {p0 : Pass} {n0 : ℕ} {piece : List ℕ} {i : ℕ} {t : 
 
 -- bytes over which each set of the layer leads back to itself
 over_reads : {t : Tabled} {p : Pass} {n : ℕ} (d : List ℕ) (search : Search) → KnowsWaiting t.graph.ways search.ahead.waiting → GoesOn t p → AllLeadBack t p.graph d →
-    Reads (bytes_at p.at d) t p n t (record { graph = p.graph; known = p.known; search = search; at = p.at + length d }) n
+    PassReads (bytes_at p.at d) t p n t (record { graph = p.graph; known = p.known; search = search; at = p.at + length d }) n
 over_reads {t} {p} {n} d search waits goes back = record {
   read = back_read (come t p n) p.at d back;
   goes_on = record { ready = ready_later (p.at + length d) goes.ready (omega arith); known = goes.known; waits = waits };
@@ -103,11 +103,11 @@ advanced_over {t0} {p0} {n0} {piece} {i} {j} {t} {p} {q} {n} past later within b
     let end : p.at + length d ≡ q.at = omega (arith, long, at, later) in
     record {
       reads =
-          subst (λ ps. Reads ps t0 p0 n0 t q n) (sym split)
+          subst (λ ps. PassReads ps t0 p0 n0 t q n) (sym split)
           (both_reads (bytes_at p0.at (take i piece)) (bytes_at p.at d) past.reads
-          (subst (λ g. Reads (bytes_at p.at d) t p n t (record { graph = g; known = q.known; search = q.search; at = q.at }) n) (sym graph)
-          (subst (λ k. Reads (bytes_at p.at d) t p n t (record { graph = p.graph; known = k; search = q.search; at = q.at }) n) (sym known)
-          (subst (λ k. Reads (bytes_at p.at d) t p n t (record { graph = p.graph; known = p.known; search = q.search; at = k }) n) end (over_reads d q.search waits past.reads.goes_on back)))));
+          (subst (λ g. PassReads (bytes_at p.at d) t p n t (record { graph = g; known = q.known; search = q.search; at = q.at }) n) (sym graph)
+          (subst (λ k. PassReads (bytes_at p.at d) t p n t (record { graph = p.graph; known = k; search = q.search; at = q.at }) n) (sym known)
+          (subst (λ k. PassReads (bytes_at p.at d) t p n t (record { graph = p.graph; known = p.known; search = q.search; at = k }) n) end (over_reads d q.search waits past.reads.goes_on back)))));
       at = omega (arith, at, past.at, later);
     }
 
@@ -121,7 +121,7 @@ advanced_on {t0} {p0} {n0} {piece} {i} {j} {t} {u} {p} {q} {n} {m} past within l
     ap (bytes_at p0.at) (sym (take_both i j piece))
     ∙ (bytes_append p0.at (take i piece) d ∙ ap (λ k. bytes_at p0.at (take i piece) ++ bytes_at k d) (ap (λ k. p0.at + k) before ∙ sym past.at)) in
     record {
-      reads = subst (λ ps. Reads ps t0 p0 n0 u q m) (sym split) (both_reads (bytes_at p0.at (take i piece)) (bytes_at p.at d) past.reads later.reads);
+      reads = subst (λ ps. PassReads ps t0 p0 n0 u q m) (sym split) (both_reads (bytes_at p0.at (take i piece)) (bytes_at p.at d) past.reads later.reads);
       at = omega (arith, past.at, later.at);
     }
 

@@ -15,7 +15,7 @@ use Rattle.marked_automaton.specs.declared.way.Way.{Way}
 use Rattle.marked_automaton.specs.Automaton.{ByteClass, HasByte}
 use Rattle.marked_automaton.proofs.Passing.{or_left, or_right}
 use Rattle.one_pass.specs.Ahead.{HasAdded}
-use Rattle.one_pass.specs.Waiting.{Forces, IsLevel, IsLoop, IsWithin}
+use Rattle.one_pass.specs.Waiting.{Forces, IsLevel, IsLoop, IsClassWithin}
 use Rattle.one_pass.specs.declared.waiting.Level.{Level}
 
 -- ---- members
@@ -55,10 +55,10 @@ has_all set rest is none b less = by (bytes.contains set b) refl
     by true e = e
     by false e = absurd (differ (sym (ap (λ v. true && not v) e) ∙ out))
 
-pub within_left : (s t u : ByteClass) → u ≡ bytes.union s t → IsWithin s u
+pub within_left : (s t u : ByteClass) → u ≡ bytes.union s t → IsClassWithin s u
 within_left s t u is b h = ap (λ x. bytes.contains x b) is ∙ (contains-union nat_cmp_total s t b ∙ or_left (bytes.contains s b) (bytes.contains t b) h)
 
-pub within_right : (s t u : ByteClass) → u ≡ bytes.union s t → IsWithin t u
+pub within_right : (s t u : ByteClass) → u ≡ bytes.union s t → IsClassWithin t u
 within_right s t u is b h = ap (λ x. bytes.contains x b) is ∙ (contains-union nat_cmp_total s t b ∙ or_right (bytes.contains s b) (bytes.contains t b) h)
 
 -- ---- levels
@@ -66,14 +66,14 @@ within_right s t u is b h = ap (λ x. bytes.contains x b) is ∙ (contains-union
 pub level_more : (leaving : Bool) (from : List ℕ) (ways : List Way) (i : ℕ) (y : Way) (old new : Level) → i < length ways → y ≡ get_or ways i y →
     IsLevel leaving (take i ways) from old.bytes old.next.items → HasAdded leaving from y old new → IsLevel leaving (take (i + 1) ways) from new.bytes new.next.items
 level_more leaving from ways i y old new less at before added z h f =
-    elim (Has-take_more_cases ways i y z less h) as (λ _. (IsTrue leaving × IsLoop z) ⊎ (IsWithin z.bytes new.bytes × Has new.next.items z.to)) [
-      | inl there ↦ elim (before z there f) as (λ _. (IsTrue leaving × IsLoop z) ⊎ (IsWithin z.bytes new.bytes × Has new.next.items z.to)) [
+    elim (Has-take_more_cases ways i y z less h) as (λ _. (IsTrue leaving × IsLoop z) ⊎ (IsClassWithin z.bytes new.bytes × Has new.next.items z.to)) [
+      | inl there ↦ elim (before z there f) as (λ _. (IsTrue leaving × IsLoop z) ⊎ (IsClassWithin z.bytes new.bytes × Has new.next.items z.to)) [
         | inl loop ↦ inl loop
         | inr on ↦ inr (λ b k. added.bytes b (on.0 b k), added.next z.to on.1)
       ]
       | inr e ↦
           let is : y ≡ z = at ∙ e in
-          subst (λ (x : Way). (IsTrue leaving × IsLoop x) ⊎ (IsWithin x.bytes new.bytes × Has new.next.items x.to)) is (added.here (subst (λ (x : Way). Has from x.from) (sym is) f))
+          subst (λ (x : Way). (IsTrue leaving × IsLoop x) ⊎ (IsClassWithin x.bytes new.bytes × Has new.next.items x.to)) is (added.here (subst (λ (x : Way). Has from x.from) (sym is) f))
     ]
 
 pub level_all : (leaving : Bool) (from : List ℕ) (ways : List Way) (i : ℕ) (level : Level) → length ways ≤ i →

@@ -11,7 +11,7 @@ use Rattle.numbered_lists.proofs.SetsLaws.{number_told}
 use Rattle.node_arena.specs.Words.{Word}
 use Rattle.output_graph.specs.Graph.{Source, sources}
 use Rattle.one_pass.specs.Places.{ReadingPlace, Leads, asks, edges_read, sets_after, sets_met, sets_on}
-use Rattle.one_pass.specs.Passes.{Progress, sets_of, Reaches, IsReady, HasGrown, HasRead, HasStopped, HasStoppedAt, Stop, IsExcess, weight_of}
+use Rattle.one_pass.specs.Passes.{Progress, sets_of, Reaches, IsReadyAt, HasGrown, HasRead, HasStopped, HasStoppedAt, Stop, IsExcess, weight_of}
 use Rattle.one_pass.specs.Making.{making_read}
 use Rattle.one_pass.specs.Weights.{IsDue, Tells}
 use Rattle.one_pass.proofs.Due.{due_cases}
@@ -38,7 +38,7 @@ layer_distinct t (x ∷ layer) sound given apart = (
   layer_distinct t layer sound (λ y h. given y (inr h)) apart.1,
 )
 
-pub ready_distinct : (P : Progress) (at : ℕ) → IsReady P.table P.graph at → AreDistinct (sets_of P)
+pub ready_distinct : (P : Progress) (at : ℕ) → IsReadyAt P.table P.graph at → AreDistinct (sets_of P)
 ready_distinct P at r = layer_distinct P.table (sources P.graph) r.sound.sets_apart r.given (rw (whole_sets P.graph r.fresh.0) r.apart)
 
 -- ---- what a table holds

@@ -14,7 +14,7 @@ use Rattle.output_graph.specs.Forward.{mark_block}
 use Rattle.output_graph.specs.Graph.{Brings, Graph, HasWord, IsCost, IsStepped, Source, sets_of as numbers_in, sources, targets}
 use Rattle.output_graph.specs.Sound.{edges_of_ends}
 use Rattle.one_pass.specs.Places.{end_at, Leads}
-use Rattle.one_pass.specs.Passes.{Progress, pass, sets_of, Reaches, IsReady, HasEnded}
+use Rattle.one_pass.specs.Passes.{Progress, pass, sets_of, Reaches, IsReadyAt, HasEnded}
 use Rattle.one_pass.proofs.GraphLaws.{word_number}
 use Rattle.one_pass.proofs.ReadWords.{end_to}
 use Rattle.one_pass.proofs.Stepping.{source_edges, place_edges, IsSpending, each_look_up, spending_none, spending_more}
@@ -34,7 +34,7 @@ module _ (A : Automaton) (n : ℕ) (P : Progress) where
     pub spent : IsSpending A (end_at n) P done Q
     pub words : (w : Word) → HasWord (targets Q.graph) 0 w ↔ EndsOn done w
 
-  pub ending_none : (at : ℕ) → IsReady P.table P.graph at → IsEnding [] P
+  pub ending_none : (at : ℕ) → IsReadyAt P.table P.graph at → IsEnding [] P
   ending_none at r = record {
     spent = spending_none A (end_at n) P at r;
     words = λ w. (λ h. absurd (none w h), λ h. absurd h.1);

@@ -11,7 +11,7 @@ use Rattle.std.proofs.lemmas.Nat.{mul-add-lt}
 use Rattle.std.proofs.Math.Seq.{get_or-append_right}
 use Rattle.marked_automaton.proofs.Listed.{same_or_not}
 use Rattle.marked_automaton.proofs.Passing.{or_left, or_right}
-use Rattle.one_pass.specs.Entered.{has_entry, is_entered, place_in}
+use Rattle.one_pass.specs.Entered.{has_entry, is_entered, entry_place}
 use Rattle.one_pass.specs.declared.entries.Entry.{Entry}
 use Rattle.one_pass.specs.declared.entries.Entry.TheVariants.{Unknown}
 
@@ -107,17 +107,17 @@ module _ (asked new : Sets) (numbers wide : List Entry) (count : ℕ) (classes :
   same_asked : (k b : ℕ) → has_entry new k b ≡ has_entry asked k b
   same_asked k b = ap (λ s. bytes.contains s b) (same k)
 
-  same_place : (k b : ℕ) → b < 256 → has_entry asked k b ≡ true → entry_in wide (place_in count classes k b) ≡ entry_in numbers (place_in count classes k b)
-  same_place k b less has = kept (place_in count classes k b) (place_within count (slice_index classes b) k (length asked) (length numbers) (small b less) (within_asked asked k b has) room)
+  same_place : (k b : ℕ) → b < 256 → has_entry asked k b ≡ true → entry_in wide (entry_place count classes k b) ≡ entry_in numbers (entry_place count classes k b)
+  same_place k b less has = kept (entry_place count classes k b) (place_within count (slice_index classes b) k (length asked) (length numbers) (small b less) (within_asked asked k b has) room)
 
-  pub room_entry : (k b : ℕ) → b < 256 → (if has_entry new k b then entry_in wide (place_in count classes k b) else Unknown) ≡ (if has_entry asked k b then entry_in numbers (place_in count classes k b) else Unknown)
-  room_entry k b less = ap (λ v. if v then entry_in wide (place_in count classes k b) else Unknown) (same_asked k b) ∙ by (has_entry asked k b) refl
+  pub room_entry : (k b : ℕ) → b < 256 → (if has_entry new k b then entry_in wide (entry_place count classes k b) else Unknown) ≡ (if has_entry asked k b then entry_in numbers (entry_place count classes k b) else Unknown)
+  room_entry k b less = ap (λ v. if v then entry_in wide (entry_place count classes k b) else Unknown) (same_asked k b) ∙ by (has_entry asked k b) refl
     where
-      by : (v : Bool) → has_entry asked k b ≡ v → (if v then entry_in wide (place_in count classes k b) else Unknown) ≡ (if v then entry_in numbers (place_in count classes k b) else Unknown)
+      by : (v : Bool) → has_entry asked k b ≡ v → (if v then entry_in wide (entry_place count classes k b) else Unknown) ≡ (if v then entry_in numbers (entry_place count classes k b) else Unknown)
       by false is = refl
       by true is = same_place k b less is
 
-  pub room_some : ((k b : ℕ) → b < 256 → IsTrue (has_entry asked k b) → IsEntered (entry_in numbers (place_in count classes k b))) → (k b : ℕ) → b < 256 → IsTrue (has_entry new k b) → IsEntered (entry_in wide (place_in count classes k b))
+  pub room_some : ((k b : ℕ) → b < 256 → IsTrue (has_entry asked k b) → IsEntered (entry_in numbers (entry_place count classes k b))) → (k b : ℕ) → b < 256 → IsTrue (has_entry new k b) → IsEntered (entry_in wide (entry_place count classes k b))
   room_some old k b less has =
       let was = sym (same_asked k b) ∙ has in
       subst IsEntered (sym (same_place k b less was)) (old k b less was)
@@ -173,29 +173,29 @@ module _ (asked new : Sets) (numbers : List Entry) (place : ℕ → ℕ → ℕ)
           ]
 
 -- as the code enters it
-module _ (asked : Sets) (numbers : List Entry) (count : ℕ) (classes : List ℕ) (layer byte : ℕ) (e : Entry) (place : ℕ) (had : Entry) (was one with_one : bytes.FinSet nat_cmp) (in_asked : layer < length asked) (at : place ≡ place_in count classes layer byte)
+module _ (asked : Sets) (numbers : List Entry) (count : ℕ) (classes : List ℕ) (layer byte : ℕ) (e : Entry) (place : ℕ) (had : Entry) (was one with_one : bytes.FinSet nat_cmp) (in_asked : layer < length asked) (at : place ≡ entry_place count classes layer byte)
     (in_numbers : place < length numbers) (read : had ≡ get_or numbers place had) (free : (had ≡ Unknown) ⊎ (had ≡ e)) (some : IsEntered e) (read_set : was ≡ get_or asked layer was) (single : one ≡ bytes.insert bytes.empty byte)
-    (joined : with_one ≡ bytes.union was one) (old : (k b : ℕ) → b < 256 → IsTrue (has_entry asked k b) → IsEntered (entry_in numbers (place_in count classes k b))) where
+    (joined : with_one ≡ bytes.union was one) (old : (k b : ℕ) → b < 256 → IsTrue (has_entry asked k b) → IsEntered (entry_in numbers (entry_place count classes k b))) where
   noted : (k b : ℕ) → IsTrue (has_entry (put asked layer with_one) k b) ↔ (IsTrue (has_entry asked k b) ⊎ ((k ≡ layer) × (byte ≡ b)))
   noted = is_noted asked (put asked layer with_one) layer byte was in_asked read_set (ap (put asked layer) (joined ∙ ap (bytes.union was) single))
 
-  free_there : (entry_in numbers (place_in count classes layer byte) ≡ Unknown) ⊎ (entry_in numbers (place_in count classes layer byte) ≡ e)
+  free_there : (entry_in numbers (entry_place count classes layer byte) ≡ Unknown) ⊎ (entry_in numbers (entry_place count classes layer byte) ≡ e)
   free_there =
-      let is : entry_in numbers (place_in count classes layer byte) ≡ had = ap (entry_in numbers) (sym at) ∙ sym (get_or_read numbers place had in_numbers read Unknown) in
-      elim free as (λ _. (entry_in numbers (place_in count classes layer byte) ≡ Unknown) ⊎ (entry_in numbers (place_in count classes layer byte) ≡ e)) [ inl none ↦ inl (is ∙ none) | inr same ↦ inr (is ∙ same) ]
+      let is : entry_in numbers (entry_place count classes layer byte) ≡ had = ap (entry_in numbers) (sym at) ∙ sym (get_or_read numbers place had in_numbers read Unknown) in
+      elim free as (λ _. (entry_in numbers (entry_place count classes layer byte) ≡ Unknown) ⊎ (entry_in numbers (entry_place count classes layer byte) ≡ e)) [ inl none ↦ inl (is ∙ none) | inr same ↦ inr (is ∙ same) ]
 
-  within : place_in count classes layer byte < length numbers
+  within : entry_place count classes layer byte < length numbers
   within = subst (λ n. n < length numbers) at in_numbers
 
-  pub entered_some : (k b : ℕ) → b < 256 → IsTrue (has_entry (put asked layer with_one) k b) → IsEntered (entry_in (put numbers place e) (place_in count classes k b))
+  pub entered_some : (k b : ℕ) → b < 256 → IsTrue (has_entry (put asked layer with_one) k b) → IsEntered (entry_in (put numbers place e) (entry_place count classes k b))
   entered_some k b less has =
-      subst (λ n. IsEntered (entry_in (put numbers n e) (place_in count classes k b))) (sym at)
-      (more_some asked (put asked layer with_one) numbers (place_in count classes) layer byte e noted within some free_there old k b less has)
+      subst (λ n. IsEntered (entry_in (put numbers n e) (entry_place count classes k b))) (sym at)
+      (more_some asked (put asked layer with_one) numbers (entry_place count classes) layer byte e noted within some free_there old k b less has)
 
   pub entered : (k b : ℕ) → b < 256 →
-      ((if has_entry (put asked layer with_one) k b then entry_in (put numbers place e) (place_in count classes k b) else Unknown) ≡ (if has_entry asked k b then entry_in numbers (place_in count classes k b) else Unknown)) ⊎ ((k ≡ layer) × (b ≡ byte) ×
-      ((if has_entry (put asked layer with_one) k b then entry_in (put numbers place e) (place_in count classes k b) else Unknown) ≡ e))
+      ((if has_entry (put asked layer with_one) k b then entry_in (put numbers place e) (entry_place count classes k b) else Unknown) ≡ (if has_entry asked k b then entry_in numbers (entry_place count classes k b) else Unknown)) ⊎ ((k ≡ layer) × (b ≡ byte) ×
+      ((if has_entry (put asked layer with_one) k b then entry_in (put numbers place e) (entry_place count classes k b) else Unknown) ≡ e))
   entered k b less =
-      subst (λ n. ((if has_entry (put asked layer with_one) k b then entry_in (put numbers n e) (place_in count classes k b) else Unknown) ≡ (if has_entry asked k b then entry_in numbers (place_in count classes k b) else Unknown)) ⊎ ((k ≡ layer) × (b ≡ byte) ×
-      ((if has_entry (put asked layer with_one) k b then entry_in (put numbers n e) (place_in count classes k b) else Unknown) ≡ e))) (sym at)
-      (more_entered asked (put asked layer with_one) numbers (place_in count classes) layer byte e noted within some free_there old k b less)
+      subst (λ n. ((if has_entry (put asked layer with_one) k b then entry_in (put numbers n e) (entry_place count classes k b) else Unknown) ≡ (if has_entry asked k b then entry_in numbers (entry_place count classes k b) else Unknown)) ⊎ ((k ≡ layer) × (b ≡ byte) ×
+      ((if has_entry (put asked layer with_one) k b then entry_in (put numbers n e) (entry_place count classes k b) else Unknown) ≡ e))) (sym at)
+      (more_entered asked (put asked layer with_one) numbers (entry_place count classes) layer byte e noted within some free_there old k b less)

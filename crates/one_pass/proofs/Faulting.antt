@@ -11,13 +11,13 @@ use Rattle.set_table.specs.Tabled.{Tabled}
 use Rattle.one_pass.specs.Faults.{IsFaultAt, IsFaultOf}
 use Rattle.output_graph.specs.Graph.{Graph}
 use Rattle.one_pass.specs.Places.{ReadingPlace, asks, byte_at, bytes_at, sets_met}
-use Rattle.one_pass.specs.Passes.{Progress, sets_of, IsReady, HasRead, HasStopped, Stop}
+use Rattle.one_pass.specs.Passes.{Progress, sets_of, IsReadyAt, HasRead, HasStopped, Stop}
 use Rattle.one_pass.proofs.Composing.{asks_append, excess_grown, grown_none, met_first, met_then, read_then, ready_distinct, look_ups_first, look_ups_then, stopped_then}
 use Rattle.one_pass.proofs.Due.{due_asked}
 use Rattle.one_pass.proofs.Sets.{Covers, met_left, look_ups_left}
 
 -- ready for a position, and so for a later one
-pub ready_later : {t : Tabled} {g : Graph} {at : ℕ} (later : ℕ) → IsReady t g at → at ≤ later → IsReady t g later
+pub ready_later : {t : Tabled} {g : Graph} {at : ℕ} (later : ℕ) → IsReadyAt t g at → at ≤ later → IsReadyAt t g later
 ready_later later r le = record {
   sound = r.sound;
   given = r.given;
@@ -46,7 +46,7 @@ read_none A P = record {
 
 -- ---- after some places
 
-module _ (ps qs : List ReadingPlace) (P Q : Progress) (at : ℕ) (read : HasRead P.table.graph ps P Q) (ready : IsReady Q.table Q.graph at) where
+module _ (ps qs : List ReadingPlace) (P Q : Progress) (at : ℕ) (read : HasRead P.table.graph ps P Q) (ready : IsReadyAt Q.table Q.graph at) where
   pub both_read : (R : Progress) → HasRead Q.table.graph qs Q R → HasRead P.table.graph (ps ++ qs) P R
   both_read R later =
       read_then P.table.graph ps qs P Q read R (ready_distinct Q at ready) (subst (λ A. HasRead A qs Q R) read.table.graph later)

@@ -3,13 +3,13 @@ use Rattle.std.proofs.Common.{◌≡◌, ℕ, zero, suc, ◌+◌, ◌-◌, ◌<�
 use Rattle.std.proofs.lemmas.List.{get_or-take, length-take-le}
 use Rattle.span_core.specs.Lists.{Has, IsInOrder}
 use Rattle.span_core.proofs.HasLaws.{Has-get_or}
-use Rattle.byte_runs.specs.Inner.{EndsNowhere, Inner, IsBehind, StandsAt}
+use Rattle.byte_runs.specs.Inner.{EndsNowhere, Inner, IsTextBehind, StandsAt}
 use Rattle.marked_automaton.specs.declared.way.Way.{Way}
 use Rattle.marked_automaton.specs.Automaton.{Automaton, HasByte}
 use Rattle.output_graph.specs.Graph.{Graph, Source, sources}
 use Rattle.set_table.specs.Tabled.{IsTabled, Tabled}
 use Rattle.numbered_lists.specs.Numbered.{set_at}
-use Rattle.one_pass.specs.Inside.{Deepens, EndsIn, IsRegion, Kills, LastKills, NoneEnds, WaitsInside}
+use Rattle.one_pass.specs.Inside.{Deepens, IsTextBehind, IsRegion, Kills, LastKills, NoneEnds, WaitsInside}
 use Rattle.one_pass.specs.Passes.{AllLeadBack, AreGiven}
 use Rattle.one_pass.specs.Waiting.{IsLoop, IsLooping, IsOf, LeadsBack}
 use Rattle.one_pass.proofs.BackLaws.{none_back}
@@ -17,18 +17,18 @@ use Rattle.one_pass.proofs.WaitLaws.{AreSmall, Departs, Dies, departs_back, smal
 
 module _ (A : Automaton) (states region : List ℕ) (depth : ℕ → ℕ) (text : List ℕ) (is : IsRegion A.ways states region depth text) where
   -- what a way on a byte leaves behind
-  deeper : (from : ℕ) (y : Way) (to b : ℕ) (before : List ℕ) → Deepens text from y to → HasByte y.bytes b → EndsIn text from before → EndsIn text to (b ∷ before)
-  deeper from y to b before (inl none) byte ends = subst (λ m. EndsIn text m (b ∷ before)) (sym none) tt
-  deeper from y to b before (inr more) byte ends = subst (λ m. EndsIn text m (b ∷ before)) (sym more.0) (more.1 b byte, ends)
+  deeper : (from : ℕ) (y : Way) (to b : ℕ) (before : List ℕ) → Deepens text from y to → HasByte y.bytes b → IsTextBehind text from before → IsTextBehind text to (b ∷ before)
+  deeper from y to b before (inl none) byte ends = subst (λ m. IsTextBehind text m (b ∷ before)) (sym none) tt
+  deeper from y to b before (inr more) byte ends = subst (λ m. IsTextBehind text m (b ∷ before)) (sym more.0) (more.1 b byte, ends)
 
-  inside_dies : (d : List ℕ) (before : List ℕ) → LastKills A.ways states region d → NoneEnds text before d → (x : ℕ) → Has region x → EndsIn text (depth x) before → Dies A x d
+  inside_dies : (d : List ℕ) (before : List ℕ) → LastKills A.ways states region d → NoneEnds text before d → (x : ℕ) → Has region x → IsTextBehind text (depth x) before → Dies A x d
   inside_dies [] before last none x h ends = absurd last
   inside_dies (b ∷ []) before last none x h ends = λ y has from byte. absurd (last.inside y has (subst (Has region) (sym from) h) byte)
   inside_dies (b ∷ c ∷ d) before last none x h ends = λ y has from byte.
-      let deep : EndsIn text (depth y.from) before = subst (λ p. EndsIn text (depth p) before) (sym from) ends in
+      let deep : IsTextBehind text (depth y.from) before = subst (λ p. IsTextBehind text (depth p) before) (sym from) ends in
       elim (is.stays y has (subst (Has region) (sym from) h)) as (λ _. Dies A y.to (c ∷ d)) [
         | inl stay ↦ inside_dies (c ∷ d) (b ∷ before) last none.1 y.to stay.0 (deeper (depth y.from) y (depth y.to) b before stay.1 byte deep)
-        | inr close ↦ absurd (none.0 (subst (λ m. EndsIn text m (b ∷ before)) close.0 (close.1 b byte, deep)))
+        | inr close ↦ absurd (none.0 (subst (λ m. IsTextBehind text m (b ∷ before)) close.0 (close.1 b byte, deep)))
       ]
 
   module _ (S : List ℕ) (order : IsInOrder ◌<◌ S) (of : IsOf states S) where
@@ -67,7 +67,7 @@ read_more before d e b so at = record { count = (let c = so.count in omega (arit
     by zero k same = let here : e ≡ k = omega (arith, same) in sym at ∙ subst (λ n. get_or d e 0 ≡ get_or d n 0) here refl
     by (suc i) k same = so.each i k (omega (arith, same))
 
-ends_reads : (text : List ℕ) (m : ℕ) (before : List ℕ) → EndsIn text m before → (m ≤ length before) × ((i k : ℕ) → i + suc k ≡ m → get_or before i 0 ≡ get_or text k 0)
+ends_reads : (text : List ℕ) (m : ℕ) (before : List ℕ) → IsTextBehind text m before → (m ≤ length before) × ((i k : ℕ) → i + suc k ≡ m → get_or before i 0 ≡ get_or text k 0)
 ends_reads text zero before h = (omega arith, λ i k e. absurd (omega (arith, e)))
 ends_reads text (suc m) [] h = absurd h
 ends_reads text (suc m) (b ∷ before) h = let r = ends_reads text m before h.1 in (omega (arith, r.0), by r.1)
@@ -76,7 +76,7 @@ ends_reads text (suc m) (b ∷ before) h = let r = ends_reads text m before h.1 
     by rest zero k same = let here : m ≡ k = omega (arith, same) in subst (λ n. b ≡ get_or text n 0) here h.0
     by rest (suc i) k same = rest i k (omega (arith, same))
 
-ends_stands : (text before d : List ℕ) (e : ℕ) → AreRead before d e → EndsIn text (length text) before → StandsAt text d (e - length text)
+ends_stands : (text before d : List ℕ) (e : ℕ) → AreRead before d e → IsTextBehind text (length text) before → StandsAt text d (e - length text)
 ends_stands text before d e so ends j less =
     let r = ends_reads text (length text) before ends in
     let short : length text ≤ e = omega (arith, r.0, so.count) in
@@ -121,7 +121,7 @@ last_kills ways states region (b ∷ c ∷ d) (suc k) less kills = last_kills wa
 
 pub passed_inside : (t : Tabled) → IsTabled t → (g : Graph) → AreGiven t g → (states : List ℕ) (inner : Inner) → WaitsInside t.graph.ways states inner →
     ((x : Source) → Has (sources g) x → IsOf states (set_at t.sets x.set)) → (d : List ℕ) → ((i : ℕ) → get_or d i 0 < 256) → (q : ℕ) → q ≤ length d →
-    EndsNowhere inner.text d q → IsBehind inner.kills d q → AllLeadBack t g (take q d)
+    EndsNowhere inner.text d q → IsTextBehind inner.kills d q → AllLeadBack t g (take q d)
 passed_inside t tabled g given states inner waits of d small zero le nowhere behind = none_back t g
 passed_inside t tabled g given states inner waits of d small (suc k) le nowhere behind = λ x h.
     inside_back t.graph states waits.region waits.depth inner.text waits.is (set_at t.sets x.set) (tabled.sets (set_at t.sets x.set) (Has-get_or t.sets x.set [] (given x h))).order (of x h)

@@ -24,7 +24,7 @@ use Rattle.one_pass.specs.KnownSteps.{KnownStep}
 use Rattle.set_table.specs.Tabled.{HasEdges, Tabled, edge_named, look_up}
 use Rattle.numbered_lists.specs.Numbered.{set_at, with_set}
 use Rattle.set_table.proofs.NamingLaws.{named_stay}
-use Rattle.one_pass.specs.Entered.{has_entry, place_in}
+use Rattle.one_pass.specs.Entered.{has_entry, entry_place}
 use Rattle.one_pass.specs.Entries.{entry_at}
 use Rattle.one_pass.proofs.EntryLaws.{within_asked}
 use Rattle.one_pass.specs.Known.{AreAlike, AreLookUps, IsAlike, IsEntry, IsKnown, IsLookUp, layer_at}
@@ -116,7 +116,7 @@ none_or_within : (entries : Entries) (k b : ℕ) → (entry_at entries k b ≡ U
 none_or_within entries k b = by (has_entry entries.asked.items k b) refl
   where
     n : Entry
-    n = get_or entries.entered.items (place_in entries.classes.count entries.classes.numbers k b) Unknown
+    n = get_or entries.entered.items (entry_place entries.classes.count entries.classes.numbers k b) Unknown
 
     by : (v : Bool) → has_entry entries.asked.items k b ≡ v → ((if v then n else Unknown) ≡ Unknown) ⊎ (k < length entries.asked.items)
     by false is = inl refl

@@ -18,10 +18,10 @@ use Rattle.one_pass.specs.declared.known.Known.{Known}
 use Rattle.one_pass.specs.declared.pass.Pass.{Pass}
 use Rattle.one_pass.specs.declared.search.Search.{Search}
 use Rattle.one_pass.specs.Ahead.{KnowsWaiting}
-use Rattle.one_pass.specs.Going.{GoesOn, IsAdvanced, Reads, come}
+use Rattle.one_pass.specs.Going.{GoesOn, IsAdvanced, PassReads, come}
 use Rattle.one_pass.specs.Known.{AreLookUps, IsGlide, IsStepOf, Knows, Stands, layer_at}
 use Rattle.one_pass.specs.KnownSteps.{KnownStep, programs_of}
-use Rattle.one_pass.specs.Numbered.{IsAhead, IsLed, IsNumbered, StandsIn, as_layer, in_layer, moved}
+use Rattle.one_pass.specs.Numbered.{IsAhead, IsLed, IsNumbered, StandsIn, as_layer, in_layer, moved_to}
 use Rattle.one_pass.specs.Passes.{AllLeadBack}
 use Rattle.one_pass.specs.Places.{ReadingPlace, byte_at}
 use Rattle.one_pass.proofs.Advancing.{advanced_more, advanced_none, advanced_over}
@@ -100,12 +100,12 @@ module _ (t : Tabled) (p : Pass) (k b : ℕ) (goes : GoesOn t (as_layer (Some k)
       every = ap length to_is ∙ to_many;
     }
 
-    pub glide_reads : AreApart (sources p.graph) → (n : ℕ) → Reads (byte_at p.at b ∷ []) t (as_layer (Some k) p) n t (as_layer (Some next) (moved p.graph 1 p)) n
+    pub glide_reads : AreApart (sources p.graph) → (n : ℕ) → PassReads (byte_at p.at b ∷ []) t (as_layer (Some k) p) n t (as_layer (Some next) (moved_to p.graph 1 p)) n
     glide_reads apart n =
         let handed = run_named sets (handing glide.to) p.graph (renamed glide.to p.graph) p.at n n number.every
         (hand_run p.graph glide.to p.at n goes.ready.fresh.0 no_next apart glide.distinct to_many) in
         let look_ups = subst (λ xs. AreLookUps t b xs (handing glide.to)) (sym sets_are) glide.look_ups in
-        subst (λ xs. Reads (byte_at p.at b ∷ []) t (as_layer (Some k) p) n t (let q : Pass = record { graph = renamed xs p.graph; known = p.known; search = p.search; at = p.at + 1 } in q) n) (sym to_is)
+        subst (λ xs. PassReads (byte_at p.at b ∷ []) t (as_layer (Some k) p) n t (let q : Pass = record { graph = renamed xs p.graph; known = p.known; search = p.search; at = p.at + 1 } in q) n) (sym to_is)
         (run_reads goes (handing glide.to) look_ups handed)
 
   -- ---- running a program
@@ -125,7 +125,7 @@ module _ (t : Tabled) (p : Pass) (k b : ℕ) (goes : GoesOn t (as_layer (Some k)
     next_is = layer_is p.known.layers step.next step.program.targets of.next
 
     abbrev Reads_so : Pass → Type 0
-    Reads_so q = Reads (byte_at p.at b ∷ []) t (as_layer (Some k) p) n t q m
+    Reads_so q = PassReads (byte_at p.at b ∷ []) t (as_layer (Some k) p) n t q m
 
     run_named_reads : Reads_so (record { graph = renamed step.program.targets h; known = p.known; search = p.search; at = p.at + 1 })
     run_named_reads =
@@ -155,16 +155,16 @@ module _ {t0 : Tabled} {p0 : Pass} {n0 : ℕ} {bytes : List ℕ} where
 
 -- none, in a layer
 advanced_here : {t : Tabled} (k : ℕ) (p : Pass) {n : ℕ} {bytes : List ℕ} → GoesOn t (as_layer (Some k) p) →
-    IsAdvanced t (as_layer (Some k) p) n bytes 0 t (as_layer (Some k) (moved p.graph 0 p)) n
+    IsAdvanced t (as_layer (Some k) p) n bytes 0 t (as_layer (Some k) (moved_to p.graph 0 p)) n
 advanced_here {t} k p {n} {bytes} goes =
     let same : p.at ≡ p.at + 0 = omega arith in
     subst (λ a. IsAdvanced t (as_layer (Some k) p) n bytes 0 t (as_layer (Some k) (record { graph = p.graph; known = p.known; search = p.search; at = a })) n) same
     (advanced_start {n0 = n} {bytes = bytes} goes)
 
 -- one byte more
-advanced_by : {t : Tabled} {q : Pass} {bytes : List ℕ} (p : Pass) (g h : Graph) (k next : ℕ) {j n c m : ℕ} → IsAdvanced t q n bytes j t (as_layer (Some k) (moved g j p)) c → j < length bytes →
-    Reads (byte_at (p.at + j) (get_or bytes j 0) ∷ []) t (as_layer (Some k) (moved g j p)) c t (as_layer (Some next) (record { graph = h; known = p.known; search = p.search; at = p.at + j + 1 })) m →
-    IsAdvanced t q n bytes (j + 1) t (as_layer (Some next) (moved h (j + 1) p)) m
+advanced_by : {t : Tabled} {q : Pass} {bytes : List ℕ} (p : Pass) (g h : Graph) (k next : ℕ) {j n c m : ℕ} → IsAdvanced t q n bytes j t (as_layer (Some k) (moved_to g j p)) c → j < length bytes →
+    PassReads (byte_at (p.at + j) (get_or bytes j 0) ∷ []) t (as_layer (Some k) (moved_to g j p)) c t (as_layer (Some next) (record { graph = h; known = p.known; search = p.search; at = p.at + j + 1 })) m →
+    IsAdvanced t q n bytes (j + 1) t (as_layer (Some next) (moved_to h (j + 1) p)) m
 advanced_by {t} {q} {bytes} p g h k next {j} {n} {c} {m} past within one =
     let same : p.at + j + 1 ≡ p.at + (j + 1) = omega arith in
     subst (λ a. IsAdvanced t q n bytes (j + 1) t (as_layer (Some next) (record { graph = h; known = p.known; search = p.search; at = a })) m) same
@@ -194,7 +194,7 @@ module _ {bytes : List ℕ} {t : Tabled} {k : ℕ} {p : Pass} where
       may = ahead.may;
       led = λ g n m run.
           let l = ahead.led g n m run in
-          let q : Pass = moved g j p in
+          let q : Pass = moved_to g j p in
           let goes = l.advanced.reads.goes_on in
           record {
             advanced = advanced_by p g g next to l.advanced left (glide_reads t q next byte goes l.stands to glide l.apart m);
@@ -213,7 +213,7 @@ module _ {bytes : List ℕ} {t : Tabled} {k : ℕ} {p : Pass} where
           (length (program_at (programs_of p.known.steps) x.program).groups ≡ length g.layer) × IsPlace g x.at
       may_here n g m run =
           let l = ahead.led g n m run in
-          let q : Pass = moved g j p in
+          let q : Pass = moved_to g j p in
           let goes = l.advanced.reads.goes_on in
           let past = subst (λ a. IsPast (sources g) a) (sym here) (place_here t q next byte goes l.stands) in
           (ap (λ (s : Steps). length s.groups) program_so ∙ groups_many t q next byte goes l.stands step.program.groups of.look_ups, inl (goes.ready.fresh.0, past))
@@ -222,7 +222,7 @@ module _ {bytes : List ℕ} {t : Tabled} {k : ℕ} {p : Pass} where
       led_here g n m run =
           let s = run_split (programs_of p.known.steps) plan x p.graph g n m run in
           let l = ahead.led s.0 n s.1 s.2 in
-          let q : Pass = moved s.0 j p in
+          let q : Pass = moved_to s.0 j p in
           let goes = l.advanced.reads.goes_on in
           let so = subst (λ (a : ℕ). IsRunBy (program_at (programs_of p.known.steps) x.program) a s.0 g s.1 m) here s.3 in
           let last = subst (λ (f : Steps). IsRunBy f (p.at + j) s.0 g s.1 m) program_so so in
@@ -262,10 +262,10 @@ start_in {t} {p} {n} {piece} {known} {search} k goes knows waits stands =
     subst (λ graph. IsAdvanced t p n piece 0 t (let q : Pass = record { graph = graph; known = known; search = search; at = p.at } in q) n) (sym (own_layer t p.graph known k stands)) (advanced_none goes knows waits)
 
 -- where the names are written, and something else may be searched for
-pub named_reads : {ps : List ReadingPlace} {t u : Tabled} {p q : Pass} {n m : ℕ} (k : Option ℕ) (search : Search) → search.ahead ≡ q.search.ahead → Stands u q.graph q.known k → Reads ps t p n u q m →
-    Reads ps t p n u (as_layer k (record { graph = q.graph; known = q.known; search = search; at = q.at })) m
+pub named_reads : {ps : List ReadingPlace} {t u : Tabled} {p q : Pass} {n m : ℕ} (k : Option ℕ) (search : Search) → search.ahead ≡ q.search.ahead → Stands u q.graph q.known k → PassReads ps t p n u q m →
+    PassReads ps t p n u (as_layer k (record { graph = q.graph; known = q.known; search = search; at = q.at })) m
 named_reads {ps} {t} {u} {p} {q} {n} {m} k search same stands done =
-    subst (λ graph. Reads ps t p n u (let r : Pass = record { graph = graph; known = q.known; search = search; at = q.at } in r) m) (sym (own_layer u q.graph q.known k stands))
+    subst (λ graph. PassReads ps t p n u (let r : Pass = record { graph = graph; known = q.known; search = search; at = q.at } in r) m) (sym (own_layer u q.graph q.known k stands))
     (record { read = done.read; goes_on = record { ready = done.goes_on.ready; known = done.goes_on.known; waits = subst (λ a. KnowsWaiting u.graph.ways a.waiting) (sym same) done.goes_on.waits } })
 
 -- something else may be searched for
@@ -277,5 +277,5 @@ searched {t = t} k p search same past = record {
 }
 
 -- from a pass that is the same
-pub from_same : {t u : Tabled} {p r q : Pass} {b n m : ℕ} → r ≡ p → Reads (byte_at r.at b ∷ []) t r n u q m → Reads (byte_at p.at b ∷ []) t p n u q m
-from_same {t} {u} {p} {r} {q} {b} {n} {m} same done = subst (λ (x : Pass). Reads (byte_at x.at b ∷ []) t x n u q m) same done
+pub from_same : {t u : Tabled} {p r q : Pass} {b n m : ℕ} → r ≡ p → PassReads (byte_at r.at b ∷ []) t r n u q m → PassReads (byte_at p.at b ∷ []) t p n u q m
+from_same {t} {u} {p} {r} {q} {b} {n} {m} same done = subst (λ (x : Pass). PassReads (byte_at x.at b ∷ []) t x n u q m) same done

@@ -8,11 +8,11 @@ use Rattle.set_table.specs.Tabled.{IsTabled, Tabled}
 use Rattle.output_graph.specs.Graph.{AreApart, Graph, Source, sources}
 use Rattle.one_pass.specs.Builds.{IsStarted}
 use Rattle.one_pass.specs.Layers.{first_source}
-use Rattle.one_pass.specs.Passes.{IsOpen, IsReady, pass}
+use Rattle.one_pass.specs.Passes.{IsOpen, IsReadyAt, pass}
 use Rattle.node_arena.specs.Words.{Word}
 use Rattle.one_pass.proofs.GraphLaws.{whole_sets}
 
-pub open_ready : {t : Tabled} {g : Graph} {at : ℕ} → IsTabled t → AreApart (sources g) → IsOpen t g at → IsReady t g at
+pub open_ready : {t : Tabled} {g : Graph} {at : ℕ} → IsTabled t → AreApart (sources g) → IsOpen t g at → IsReadyAt t g at
 open_ready {g = g} tabled apart open_here = record {
   sound = tabled;
   given = open_here.given;
@@ -21,7 +21,7 @@ open_ready {g = g} tabled apart open_here = record {
   past = open_here.past;
 }
 
-pub ready_open : {t : Tabled} {g : Graph} {at : ℕ} → IsReady t g at → IsOpen t g at
+pub ready_open : {t : Tabled} {g : Graph} {at : ℕ} → IsReadyAt t g at → IsOpen t g at
 ready_open r = record { fresh = r.fresh; given = r.given; past = r.past }
 
 -- a graph that was begun at the first set of a table

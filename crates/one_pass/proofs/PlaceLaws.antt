@@ -12,7 +12,7 @@ use Rattle.node_arena.specs.Words.{Word}
 use Rattle.output_graph.specs.Forward.{mark_block}
 use Rattle.output_graph.specs.Graph.{Graph, IsPast, Source, sets_of as numbers_in, source_of, sources, targets}
 use Rattle.one_pass.specs.Places.{ReadingPlace, Leads, sets_met}
-use Rattle.one_pass.specs.Passes.{Progress, pass, sets_of, Reaches, IsReady, HasGrown, HasRead}
+use Rattle.one_pass.specs.Passes.{Progress, pass, sets_of, Reaches, IsReadyAt, HasGrown, HasRead}
 use Rattle.one_pass.specs.Weights.{Tells}
 use Rattle.one_pass.proofs.Due.{due_asked}
 use Rattle.one_pass.proofs.Sets.{Covers, next_cases, has_next}
@@ -146,9 +146,9 @@ module _ (A : Automaton) (p : ReadingPlace) (P : Progress) where
         }
 
     -- the layer that comes next is ready for a later position, or for the same where no edge has marks
-    pub place_ready : (at later : ℕ) → IsReady P.table P.graph at → at ≤ later →
+    pub place_ready : (at later : ℕ) → IsReadyAt P.table P.graph at → at ≤ later →
         ((x : Source) (e : Reach) (b : ℕ × ℕ) → Has (sources P.graph) x → Has (source_edges A p P x) e → Has (mark_block p.at e.marks) b → b.0 < later) →
-        (g.stepped ≡ 0) → (g.next ≡ []) → IsReady R.table R.graph later
+        (g.stepped ≡ 0) → (g.next ≡ []) → IsReadyAt R.table R.graph later
     place_ready at later r le blocks stepped next = record {
       sound = all.spent.sound;
       given = λ x h. all.given x.set (number_there x h);

@@ -11,7 +11,7 @@ use Rattle.output_graph.specs.Graph.{Graph}
 use Rattle.one_pass.specs.declared.pass.Pass.{Pass}
 use Rattle.one_pass.specs.Builds.{IsNew, IsStarted, build}
 use Rattle.one_pass.specs.Faults.{IsFaultAt, IsFaultOf, IsReadFault}
-use Rattle.one_pass.specs.Going.{Ends, GivesUp, GivesUpEnd, Reads, come}
+use Rattle.one_pass.specs.Going.{PassEnds, GivesUp, GivesUpEnd, PassReads, come}
 use Rattle.one_pass.specs.Places.{ReadingPlace, AreReadWords, asks, end_at, is_touched, parts_places, places, places_before, sets_met}
 use Rattle.one_pass.specs.Passes.{Progress, pass, sets_of, HasEnded, HasKept, HasRead, HasStoppedAt, stop}
 use Rattle.one_pass.specs.Seen.{accepted_words}
@@ -67,9 +67,9 @@ module _ (d : List ℕ) (parts : List (ℕ × ℕ)) (apart : AreApart parts) (wi
         cause = λ new. fault_read new e up.cause;
       }
 
-  module _ {u : Tabled} {q : Pass} {m : ℕ} (given : Reads (parts_places 0 xs d) t p n u q m) (end : q.at ≡ length d) where
-    reads : Reads ps t p n u q m
-    reads = subst (λ ys. Reads (parts_places 0 ys d) t p n u q m) same given
+  module _ {u : Tabled} {q : Pass} {m : ℕ} (given : PassReads (parts_places 0 xs d) t p n u q m) (end : q.at ≡ length d) where
+    reads : PassReads ps t p n u q m
+    reads = subst (λ ys. PassReads (parts_places 0 ys d) t p n u q m) same given
 
     abbrev Q : Progress
     Q = come u q m
@@ -100,7 +100,7 @@ module _ (d : List ℕ) (parts : List (ℕ × ℕ)) (apart : AreApart parts) (wi
           cause = λ new. end_fault new e up.cause;
         }
 
-    module _ {v : Tabled} (g : Graph) {l : ℕ} (done : Ends u q m v g l) where
+    module _ {v : Tabled} (g : Graph) {l : ℕ} (done : PassEnds u q m v g l) where
       abbrev R : Progress
       R = pass v g l
 

@@ -13,7 +13,7 @@ use Rattle.automaton_reading.specs.Reading.{Reach, byte_read, rest_taken, ended,
 use Rattle.automaton_reading.specs.Chosen.{EndsWith, IsReadFrom, IsReadWith}
 use Rattle.node_arena.specs.Words.{Word}
 use Rattle.output_graph.specs.Forward.{mark_block}
-use Rattle.one_pass.specs.Places.{ReadingPlace, places, byte_at, rest_at, end_at, Leads, word_from, word_of}
+use Rattle.one_pass.specs.Places.{ReadingPlace, places, byte_at, rest_at, end_at, Leads, word_from, word_through}
 
 -- an end leads to no state
 pub end_to : (A : Automaton) (set : List ℕ) (e : Reach) → Has (edges A set ended) e → e.to ≡ []
@@ -186,7 +186,7 @@ module _ (A : Automaton) (K : ℕ → Bool) where
 
 -- accepted words, of a reading from its starts
 pub read_words : (A : Automaton) (K : ℕ → Bool) (d : List ℕ) (u : Word) →
-    Leads A (places K d 0 false) (set_of A.starts) u [] ↔ ((w : ℕ → ℕ) × IsReadWith A K d w × (word_of w (length d) ≡ u))
+    Leads A (places K d 0 false) (set_of A.starts) u [] ↔ ((w : ℕ → ℕ) × IsReadWith A K d w × (word_through w (length d) ≡ u))
 read_words A K d u = (
   leads_read A K d 0 false (set_of A.starts) u,
   λ h. subst (λ v. Leads A (places K d 0 false) (set_of A.starts) v []) h.2 (read_leads A K h.0 d 0 false (set_of A.starts) h.1),

@@ -6,13 +6,13 @@ use Rattle.one_pass.specs.declared.pass.Pass.{Pass}
 use Rattle.one_pass.specs.Going.{GivesUp, GoesOn}
 use Rattle.one_pass.specs.Passes.{pass}
 use Rattle.one_pass.specs.Places.{ReadingPlace}
-use Rattle.one_pass.specs.Readings.{HasEndedCopy, HasListed, IsRefused, so_far}
+use Rattle.one_pass.specs.Readings.{HasEndedCopy, HasListed, IsGivenUpAt, so_far}
 use Rattle.one_pass.specs.SoFar.{SoFar}
 use Rattle.one_pass.proofs.CopyLaws.{goes_on_grown}
 
 -- it was given up
-pub refused_here : {r : SoFar} {t u : Tabled} {p : Pass} (ps : ℕ → List ReadingPlace) {n m : ℕ} {e : TableFault} → so_far t p ≡ r → GivesUp (ps p.at) t p n u m e → IsRefused (ps r.at) r n m e
-refused_here {u = u} ps {n} {m} {e} is up = subst (λ (x : SoFar). IsRefused (ps x.at) x n m e) is (record { table = u; stopped = up.stopped; cause = up.cause })
+pub refused_here : {r : SoFar} {t u : Tabled} {p : Pass} (ps : ℕ → List ReadingPlace) {n m : ℕ} {e : TableFault} → so_far t p ≡ r → GivesUp (ps p.at) t p n u m e → IsGivenUpAt (ps r.at) r n m e
+refused_here {u = u} ps {n} {m} {e} is up = subst (λ (x : SoFar). IsGivenUpAt (ps x.at) x n m e) is (record { table = u; stopped = up.stopped; cause = up.cause })
 
 -- a copy was ended
 pub listed_here : {r : SoFar} {t u : Tabled} {p : Pass} {n m : ℕ} → so_far t p ≡ r → GoesOn t p → HasEndedCopy t.graph (pass t p.graph n) (pass u p.graph m) → HasListed r n (so_far u p) m

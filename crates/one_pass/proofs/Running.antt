@@ -11,7 +11,7 @@ use Rattle.output_graph.specs.Graph.{AreApart, Graph, IsCost, IsStepped, sets_of
 use Rattle.output_graph.specs.Programs.{AreStepped, IsRun}
 use Rattle.output_graph.specs.Source.{Edges}
 use Rattle.one_pass.specs.declared.pass.Pass.{Pass}
-use Rattle.one_pass.specs.Going.{GoesOn, Reads, come}
+use Rattle.one_pass.specs.Going.{GoesOn, PassReads, come}
 use Rattle.one_pass.specs.Known.{AreLookUps, IsLookUp}
 use Rattle.one_pass.specs.Passes.{AllStayOn}
 use Rattle.one_pass.specs.Places.{byte_at}
@@ -71,14 +71,14 @@ module _ (t : Tabled) (p : Pass) (n b : ℕ) (goes : GoesOn t p) where
 
 module _ {t : Tabled} {p : Pass} {n b : ℕ} (goes : GoesOn t p) where
   pub run_reads : (groups : List Edges) {H : Graph} {m : ℕ} → AreLookUps t b (sets_of p.graph.layer) groups → IsRun p.graph p.at groups H n m →
-      Reads (byte_at p.at b ∷ []) t p n t (record { graph = H; known = p.known; search = p.search; at = p.at + 1 }) m
+      PassReads (byte_at p.at b ∷ []) t p n t (record { graph = H; known = p.known; search = p.search; at = p.at + 1 }) m
   run_reads groups {H} {m} look_ups run =
       let all : (j : ℕ) × SoFar t p n b goes j run.0 m = going t p n b goes groups (sets_of p.graph.layer) 0 p.graph run.0 n m refl look_ups (stepped_none goes) run.1 in
       let full : all.0 ≡ length p.graph.layer = omega (arith, all.1.turned.stepped, run.2.every, ap length all.1.turned.layer) in
       stepped_all goes all.1 full H run.2.sources run.2.cells run.2.stepped run.2.next (p.at + 1) (omega arith)
       (λ x e c h k w. (let same = block_at p.at e.marks c w in omega (arith, same)))
 
-  pub stay_reads : AllStayOn t p.graph b → Reads (byte_at p.at b ∷ []) t p n t (record { graph = p.graph; known = p.known; search = p.search; at = p.at + 1 }) n
+  pub stay_reads : AllStayOn t p.graph b → PassReads (byte_at p.at b ∷ []) t p n t (record { graph = p.graph; known = p.known; search = p.search; at = p.at + 1 }) n
   stay_reads stay = record {
     read = stays_read t.graph (byte_at p.at b) (come t p n) (λ x h. (stays_tells t x.set b (goes.ready.given x h) (stay x h), stay x h));
     goes_on = record { ready = ready_later (p.at + 1) goes.ready (omega arith); known = goes.known; waits = goes.waits };

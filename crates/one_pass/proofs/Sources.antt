@@ -9,7 +9,7 @@ use Rattle.set_table.specs.declared.fault.TableFault.{TableFault}
 use Rattle.output_graph.specs.Graph.{AreApart, Graph, Source, sets_of, sources, targets}
 use Rattle.one_pass.specs.declared.pass.Pass.{Pass}
 use Rattle.one_pass.specs.declared.search.Search.{Search}
-use Rattle.one_pass.specs.Going.{Ends, GivesUp, GivesUpEnd, GoesOn, Reads, come}
+use Rattle.one_pass.specs.Going.{PassEnds, GivesUp, GivesUpEnd, GoesOn, PassReads, come}
 use Rattle.one_pass.specs.Ahead.{KnowsWaiting}
 use Rattle.one_pass.specs.Known.{Knows}
 use Rattle.one_pass.specs.Layers.{source_at}
@@ -104,7 +104,7 @@ module _ {ask : Question} {t : Tabled} {p : Pass} {n : ℕ} (goes : GoesOn t p) 
 
       pub stepped_all : (to : ℕ) → p.at ≤ to →
           ((x : Source) (e : Reach) (b : ℕ × ℕ) → Has (sources p.graph) x → Has (source_edges t.graph (place_of p ask) (come t p n) x) e → Has (mark_block p.at e.marks) b → b.0 < to) →
-          Reads (place_of p ask ∷ []) t p n u (record { graph = H; known = q.known; search = q.search; at = to }) m
+          PassReads (place_of p ask ∷ []) t p n u (record { graph = H; known = q.known; search = q.search; at = to }) m
       stepped_all to later blocks = record {
         read = read_here;
         goes_on = record {
@@ -166,7 +166,7 @@ module _ {t : Tabled} {p : Pass} {n : ℕ} (goes : GoesOn t p) where
       all_ended_here : k ≡ length (sources p.graph)
       all_ended_here = full ∙ layer_count t p n goes
 
-      pub ended_all : Ends t p n u g m
+      pub ended_all : PassEnds t p n u g m
       ended_all =
           all_ended t.graph p.at (come t p n) ended_so_far
           (subst (λ done. IsEnding t.graph p.at (come t p n) done ended_so_far) (ap (λ j. take j (sources p.graph)) all_ended_here ∙ take-length (sources p.graph)) past.ending)

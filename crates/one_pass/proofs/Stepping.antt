@@ -21,7 +21,7 @@ use Rattle.output_graph.specs.Graph.{Brings, Graph, HasWord, IsCost, IsStepped, 
 use Rattle.output_graph.specs.Sound.{edges_of}
 use Rattle.one_pass.specs.Turned.{HasLookedUp}
 use Rattle.one_pass.specs.Places.{ReadingPlace, edges_read, sets_met, sets_on}
-use Rattle.one_pass.specs.Passes.{Progress, pass, sets_of, stop, IsReady, HasGrown, HasStoppedAt, IsExcess}
+use Rattle.one_pass.specs.Passes.{Progress, pass, sets_of, stop, IsReadyAt, HasGrown, HasStoppedAt, IsExcess}
 use Rattle.one_pass.specs.Making.{edges_to, making_of, making_read}
 use Rattle.one_pass.proofs.GraphLaws.{word_number}
 use Rattle.one_pass.proofs.Making.{leads_once, led_twice, lone_edge, making_step}
@@ -127,7 +127,7 @@ module _ (A : Automaton) (p : ReadingPlace) (P : Progress) where
       (λ look_up h. Has-append_left asked_look_ups [] look_up h)
 
   -- nothing has been stepped
-  pub spending_none : (at : ℕ) → IsReady P.table P.graph at → IsSpending [] P
+  pub spending_none : (at : ℕ) → IsReadyAt P.table P.graph at → IsSpending [] P
   spending_none at r = record {
     table = record { graph = refl; limit = refl; kept = ([], append-nil P.table.sets); sets = λ set h. inl h; look_ups = λ look_up h. inl h; stay = λ look_up h. h };
     holds = λ x h. absurd h;
@@ -136,7 +136,7 @@ module _ (A : Automaton) (p : ReadingPlace) (P : Progress) where
     cells = omega arith;
   }
 
-  pub stepping_none : (at : ℕ) → IsReady P.table P.graph at → IsStepping [] P
+  pub stepping_none : (at : ℕ) → IsReadyAt P.table P.graph at → IsStepping [] P
   stepping_none at r = record {
     spent = spending_none at r;
     words = λ set w. (λ h. absurd (none_there h.0 (word_number P.graph.cells P.graph.next h.0 w h.2)), λ h. absurd h.1);

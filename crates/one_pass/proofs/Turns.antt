@@ -17,7 +17,7 @@ use Rattle.one_pass.specs.Layers.{no_source, source_at}
 use Rattle.one_pass.specs.Turned.{HasLookedUp, rest_edges}
 use Rattle.one_pass.specs.Faults.{IsFaultOf}
 use Rattle.one_pass.specs.Places.{ReadingPlace, asks, end_at, sets_met, sets_on}
-use Rattle.one_pass.specs.Passes.{Progress, pass, sets_of, stop, IsReady, HasRead, HasStoppedAt}
+use Rattle.one_pass.specs.Passes.{Progress, pass, sets_of, stop, IsReadyAt, HasRead, HasStoppedAt}
 use Rattle.one_pass.proofs.Composing.{excess_grown, grown_length, grown_none}
 use Rattle.one_pass.proofs.Ending.{ending_more, IsEnding, marks_of}
 use Rattle.set_table.proofs.OnceLaws.{holds_once, once_set}
@@ -25,7 +25,7 @@ use Rattle.numbered_lists.proofs.SetsLaws.{at_place}
 use Rattle.one_pass.proofs.PlaceLaws.{place_read, place_ready}
 use Rattle.one_pass.proofs.Stepping.{heavy_excess, met_here, named_before, source_edges, stepping_more, stopped_by_graph, stopped_by_table, IsSpending, IsStepping}
 
-module _ (p : ReadingPlace) (P : Progress) (at : ℕ) (ready : IsReady P.table P.graph at) (k : ℕ) (Q : Progress)
+module _ (p : ReadingPlace) (P : Progress) (at : ℕ) (ready : IsReadyAt P.table P.graph at) (k : ℕ) (Q : Progress)
     (past : IsSpending P.table.graph p P (take k (sources P.graph)) Q) (within : k < length (sources P.graph))
     (set : ℕ) (is : set ≡ (source_at (sources P.graph) k).set) where
   abbrev x : Source
@@ -121,7 +121,7 @@ marks_back [] = refl
 marks_back (m ∷ ms) = ap (λ xs. m ∷ xs) (marks_back ms)
 
 -- one source more has been ended
-pub turn_ended : (at : ℕ) (P : Progress) → IsReady P.table P.graph at → (k : ℕ) (Q : Progress) → IsEnding P.table.graph at P (take k (sources P.graph)) Q → k < length (sources P.graph) →
+pub turn_ended : (at : ℕ) (P : Progress) → IsReadyAt P.table P.graph at → (k : ℕ) (Q : Progress) → IsEnding P.table.graph at P (take k (sources P.graph)) Q → k < length (sources P.graph) →
     (set : ℕ) → set ≡ (source_at (sources P.graph) k).set → (t : Tabled) (n : ℕ) → HasLookedUp Q.table t (look_up Q.table set ended) Q.steps n →
     (ms : List ℕ) → HasEnds t (look_up Q.table set ended) ms → (g : Graph) (m : ℕ) (step : IsStepped Q.graph at (edges_of_ends ms) g) → step.left.0 ≡ source_at (sources P.graph) k →
     IsCost (length ms) (length Q.graph.cells) (length g.cells) n m → IsEnding P.table.graph at P (take (k + 1) (sources P.graph)) (pass t g m)
@@ -147,7 +147,7 @@ place_cause p P (Full weight) x =
 place_cause p P OutOfMemory x = tt
 
 -- all sources have been stepped
-module _ (p : ReadingPlace) (P : Progress) (at k : ℕ) (ready : IsReady P.table P.graph at) (Q : Progress) (past : IsStepping P.table.graph p P (take k (sources P.graph)) Q)
+module _ (p : ReadingPlace) (P : Progress) (at k : ℕ) (ready : IsReadyAt P.table P.graph at) (Q : Progress) (past : IsStepping P.table.graph p P (take k (sources P.graph)) Q)
     (all : k ≡ length (sources P.graph)) (g : Graph) (layer : sources g ≡ targets Q.graph) (cells : g.cells ≡ Q.graph.cells) where
   every : IsStepping P.table.graph p P (sources P.graph) Q
   every = subst (λ done. IsStepping P.table.graph p P done Q) (ap (λ j. take j (sources P.graph)) all ∙ take-length (sources P.graph)) past
@@ -157,6 +157,6 @@ module _ (p : ReadingPlace) (P : Progress) (at k : ℕ) (ready : IsReady P.table
 
   pub turns_ready : (later : ℕ) → at ≤ later →
       ((x : Source) (e : Reach) (b : ℕ × ℕ) → Has (sources P.graph) x → Has (source_edges P.table.graph p P x) e → Has (mark_block p.at e.marks) b → b.0 < later) →
-      (g.stepped ≡ 0) → (g.next ≡ []) → IsReady Q.table g later
+      (g.stepped ≡ 0) → (g.next ≡ []) → IsReadyAt Q.table g later
   turns_ready later le blocks stepped next =
       place_ready P.table.graph p P Q every g layer cells at later ready le blocks stepped next

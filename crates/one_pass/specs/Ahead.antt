@@ -3,7 +3,7 @@ use Rattle.std.specs.Prelude.{◌⊎◌, ℕ, Bool, List, Option, Some, None, Is
 use Rattle.span_core.specs.Lists.{Has}
 use Rattle.marked_automaton.specs.declared.way.Way.{Way}
 use Rattle.one_pass.specs.Inside.{WaitsInside}
-use Rattle.one_pass.specs.Waiting.{IsLoop, IsWithin, Waits}
+use Rattle.one_pass.specs.Waiting.{IsLoop, IsClassWithin, Waits}
 use Rattle.one_pass.specs.declared.waiting.Exit.{Exit}
 use Rattle.one_pass.specs.declared.waiting.Exit.TheVariants.{Front, Inside}
 use Rattle.one_pass.specs.declared.waiting.Level.{Level}
@@ -21,6 +21,6 @@ KnowsWaiting ways (Some w) = LeaveBy ways w.states.items w.exit
 
 -- a way was added to a level: its bytes and its state, where it leads from one of these states and is not left out
 pub record HasAdded (leaving : Bool) (from : List ℕ) (y : Way) (old new : Level) : Type 0 where
-  pub bytes : IsWithin old.bytes new.bytes
+  pub bytes : IsClassWithin old.bytes new.bytes
   pub next : (x : ℕ) → Has old.next.items x → Has new.next.items x
-  pub here : Has from y.from → (IsTrue leaving × IsLoop y) ⊎ (IsWithin y.bytes new.bytes × Has new.next.items y.to)
+  pub here : Has from y.from → (IsTrue leaving × IsLoop y) ⊎ (IsClassWithin y.bytes new.bytes × Has new.next.items y.to)

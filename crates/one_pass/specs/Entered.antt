@@ -10,8 +10,8 @@ abbrev pub has_entry : List (bytes.FinSet nat_cmp) → ℕ → ℕ → Bool
 has_entry asked k b = bytes.contains (slice_index_or asked k bytes.empty) b
 
 -- the place of a byte's class, of so many, in the layer of a number
-abbrev pub place_in : ℕ → List ℕ → ℕ → ℕ → ℕ
-place_in count classes k b = count * k + slice_index classes b
+abbrev pub entry_place : ℕ → List ℕ → ℕ → ℕ → ℕ
+entry_place count classes k b = count * k + slice_index classes b
 
 -- whether an entry says something
 abbrev pub is_entered : Entry → Bool

@@ -38,15 +38,15 @@ pub record WaitsInside (ways : List Way) (states : List ℕ) (inner : Inner) : T
   pub kills : (b : ℕ) → HasByte inner.kills b → Kills ways states region b
 
 -- the bytes that were read, the last first, begin with the first m of the text, the last of them first
-abbrev pub EndsIn : List ℕ → ℕ → List ℕ → Type 0
-EndsIn text zero before = Unit {0}
-EndsIn text (suc m) [] = ⊥
-EndsIn text (suc m) (b ∷ before) = (b ≡ slice_index text m) × EndsIn text m before
+abbrev pub IsTextBehind : List ℕ → ℕ → List ℕ → Type 0
+IsTextBehind text zero before = Unit {0}
+IsTextBehind text (suc m) [] = ⊥
+IsTextBehind text (suc m) (b ∷ before) = (b ≡ slice_index text m) × IsTextBehind text m before
 
 -- behind no byte of d the whole text was read
 abbrev pub NoneEnds : List ℕ → List ℕ → List ℕ → Type 0
 NoneEnds text before [] = Unit {0}
-NoneEnds text before (b ∷ d) = (EndsIn text (length text) (b ∷ before) → ⊥) × NoneEnds text (b ∷ before) d
+NoneEnds text before (b ∷ d) = (IsTextBehind text (length text) (b ∷ before) → ⊥) × NoneEnds text (b ∷ before) d
 
 -- the last byte kills
 abbrev pub LastKills : List Way → List ℕ → List ℕ → List ℕ → Type 0

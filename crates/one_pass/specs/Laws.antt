@@ -7,15 +7,15 @@ use Rattle.automaton_reading.specs.Reading.{questions, edges_K, look_ups_asked, 
 use Rattle.automaton_reading.specs.Chosen.{IsReadWith}
 use Rattle.node_arena.specs.Words.{Word}
 use Rattle.one_pass.specs.Builds.{IsNew, IsStarted, build}
-use Rattle.one_pass.specs.Places.{ReadingPlace, AreReadWords, Leads, asks, byte_at, bytes_at, end_at, is_touched, parts_places, places, sets_after, sets_met, word_of}
+use Rattle.one_pass.specs.Places.{ReadingPlace, AreReadWords, Leads, asks, byte_at, bytes_at, end_at, is_touched, parts_places, places, sets_after, sets_met, word_through}
 use Rattle.one_pass.specs.Seen.{accepted_words}
-use Rattle.one_pass.specs.Passes.{AllLeadBack, AllStayOn, AreGiven, Progress, Stop, sets_of, HasEnded, HasRead, HasStopped, IsExcess, IsReady, Reaches}
+use Rattle.one_pass.specs.Passes.{AllLeadBack, AllStayOn, AreGiven, Progress, Stop, sets_of, HasEnded, HasRead, HasStopped, IsExcess, IsReadyAt, Reaches}
 
 -- choices of edges at the places of a document make the words that are read
 abbrev pub ChoiceLaw : Type 0
 ChoiceLaw =
     (A : Automaton) (K : ℕ → Bool) (d : List ℕ) (u : Word) →
-    Leads A (places K d 0 false) (set_of A.starts) u [] ↔ ((w : ℕ → ℕ) × IsReadWith A K d w × (word_of w (length d) ≡ u))
+    Leads A (places K d 0 false) (set_of A.starts) u [] ↔ ((w : ℕ → ℕ) × IsReadWith A K d w × (word_through w (length d) ≡ u))
 
 -- what is asked at the places is what is counted
 abbrev pub PlaceLaw : Type 0
@@ -36,7 +36,7 @@ LayerLaw =
 abbrev pub StepLaw : Type 0
 StepLaw =
     (A : Automaton) (ps qs : List ReadingPlace) (P Q R : Progress) (at : ℕ) →
-    HasRead A ps P Q → IsReady Q.table Q.graph at → HasRead A qs Q R → HasRead A (ps ++ qs) P R
+    HasRead A ps P Q → IsReadyAt Q.table Q.graph at → HasRead A qs Q R → HasRead A (ps ++ qs) P R
 
 -- where each set of the layer has one edge on the byte, without marks and to itself, the byte has been read before it is,
 -- asked or not
@@ -57,7 +57,7 @@ pub record IsWholeLaw (A : Automaton) (K : ℕ → Bool) (d : List ℕ) (before 
 abbrev pub WholeLaw : Type 0
 WholeLaw =
     (A : Automaton) (K : ℕ → Bool) (d : List ℕ) (before : ℕ) (ps : List ReadingPlace) (P Q R : Progress) →
-    IsNew A P.table → IsStarted before P → ps ++ end_at (length d) ∷ [] ≡ places K d 0 false → HasRead A ps P Q → IsReady Q.table Q.graph (length d) →
+    IsNew A P.table → IsStarted before P → ps ++ end_at (length d) ∷ [] ≡ places K d 0 false → HasRead A ps P Q → IsReadyAt Q.table Q.graph (length d) →
     HasEnded A (length d) Q R → IsWholeLaw A K d before R
 
 -- what was given up took no more steps

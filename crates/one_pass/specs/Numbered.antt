@@ -40,12 +40,12 @@ pub record IsReadTo (bytes : List ℕ) (t : Tabled) (k : Option ℕ) (p : Pass) 
   pub within : place.bytes ≤ length bytes
 
 -- the pass with another graph, behind so many bytes more
-abbrev pub moved : Graph → ℕ → Pass → Pass
-moved g j p = record { graph = g; known = p.known; search = p.search; at = p.at + j }
+abbrev pub moved_to : Graph → ℕ → Pass → Pass
+moved_to g j p = record { graph = g; known = p.known; search = p.search; at = p.at + j }
 
 -- once programs have been run, which left this graph, so many bytes at the front of these are read
 pub record IsLed (bytes : List ℕ) (t : Tabled) (k : ℕ) (p : Pass) (n : ℕ) (g : Graph) (next j m : ℕ) : Type 0 where
-  pub advanced : IsAdvanced t (as_layer (Some k) p) n bytes j t (as_layer (Some next) (moved g j p)) m
+  pub advanced : IsAdvanced t (as_layer (Some k) p) n bytes j t (as_layer (Some next) (moved_to g j p)) m
   pub stands : IsNumbered g p.known.layers next
   pub apart : AreApart (sources g)
 

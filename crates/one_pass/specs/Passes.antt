@@ -43,7 +43,7 @@ abbrev pub AllLeadBack : Tabled → Graph → List ℕ → Type 0
 AllLeadBack t g bytes = (x : Source) → Has (sources g) x → LeadsBack t.graph (set_at t.sets x.set) bytes
 
 -- between two places: no source of the layer has been stepped, and all that it has stands before `at`
-pub record IsReady (t : Tabled) (g : Graph) (at : ℕ) : Type 0 where
+pub record IsReadyAt (t : Tabled) (g : Graph) (at : ℕ) : Type 0 where
   pub sound : IsTabled t
   pub given : AreGiven t g
   pub apart : AreDistinct (numbers_in g.layer)

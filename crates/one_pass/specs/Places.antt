@@ -56,12 +56,12 @@ word_from w i zero = mark_block i (w i)
 word_from w i (suc n) = mark_block i (w i) ++ word_from w (suc i) n
 
 -- the word of a document of length n whose position i has the block w i
-abbrev pub word_of : (ℕ → ℕ) → ℕ → Word
-word_of w n = word_from w 0 n
+abbrev pub word_through : (ℕ → ℕ) → ℕ → Word
+word_through w n = word_from w 0 n
 
 -- these are the words of the blocks with which the document is read at the positions of K
 abbrev pub AreReadWords : Automaton → (ℕ → Bool) → List ℕ → List Word → Type 0
-AreReadWords A K d words = (u : Word) → Has words u ↔ ((w : ℕ → ℕ) × IsReadWith A K d w × (word_of w (length d) ≡ u))
+AreReadWords A K d words = (u : Word) → Has words u ↔ ((w : ℕ → ℕ) × IsReadWith A K d w × (word_through w (length d) ≡ u))
 
 -- the sets that are reached from these by what is asked
 abbrev pub sets_after : Automaton → List (List ℕ) → List Question → List (List ℕ)

@@ -17,7 +17,7 @@ use Rattle.one_pass.specs.Builds.{IsStarted}
 use Rattle.one_pass.specs.Faults.{IsFaultAt, IsFaultOf}
 use Rattle.one_pass.specs.Going.{GoesOn}
 use Rattle.one_pass.specs.Known.{Knows}
-use Rattle.one_pass.specs.Passes.{HasGrown, HasRead, HasStopped, IsReady, Progress, Reaches, pass, sets_of, stop}
+use Rattle.one_pass.specs.Passes.{HasGrown, HasRead, HasStopped, IsReadyAt, Progress, Reaches, pass, sets_of, stop}
 use Rattle.one_pass.specs.Places.{Leads, ReadingPlace, edges_read, end_at}
 use Rattle.one_pass.specs.SoFar.{SoFar}
 
@@ -31,7 +31,7 @@ come_to r n = pass r.table r.graph n
 
 -- it stands between two places
 abbrev pub IsReadyThere : SoFar → Type 0
-IsReadyThere r = IsReady r.table r.graph r.at
+IsReadyThere r = IsReadyAt r.table r.graph r.at
 
 -- before the first byte, by a table that is new
 pub record HasBegun (A : Automaton) (limit before : ℕ) (r : SoFar) (n : ℕ) : Type 0 where
@@ -46,7 +46,7 @@ pub record HasReadOn (ps : List ReadingPlace) (r : SoFar) (n : ℕ) (s : SoFar) 
   pub ready : IsReadyThere s
 
 -- or it was given up at one of them
-pub record IsRefused (ps : List ReadingPlace) (r : SoFar) (n m : ℕ) (e : TableFault) : Type 0 where
+pub record IsGivenUpAt (ps : List ReadingPlace) (r : SoFar) (n m : ℕ) (e : TableFault) : Type 0 where
   pub table : Tabled
   pub stopped : HasStopped r.table.graph ps (come_to r n) (stop table m)
   pub cause : IsFaultAt ps (come_to r n) e

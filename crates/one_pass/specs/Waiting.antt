@@ -15,8 +15,8 @@ abbrev pub LeadsBack : Automaton → List ℕ → List ℕ → Type 0
 LeadsBack A set bytes = (i : ℕ) → LeadsHome A (bytes_at i bytes) set
 
 -- each byte of the one set is in the other
-abbrev pub IsWithin : ByteClass → ByteClass → Type 0
-IsWithin s t = (b : ℕ) → HasByte s b → HasByte t b
+abbrev pub IsClassWithin : ByteClass → ByteClass → Type 0
+IsClassWithin s t = (b : ℕ) → HasByte s b → HasByte t b
 
 -- a way from a state to itself without marks
 abbrev pub IsLoop : Way → Type 0
@@ -29,7 +29,7 @@ IsLooping ways p = (y : Way) × Has ways y × (y.from ≡ p) × IsLoop y × ((b 
 -- the ways from these states take bytes of this set and lead to those states, loops left out if so told
 abbrev pub IsLevel : Bool → List Way → List ℕ → ByteClass → List ℕ → Type 0
 IsLevel leaving ways from bytes next =
-    (y : Way) → Has ways y → Has from y.from → (IsTrue leaving × IsLoop y) ⊎ (IsWithin y.bytes bytes × Has next y.to)
+    (y : Way) → Has ways y → Has from y.from → (IsTrue leaving × IsLoop y) ⊎ (IsClassWithin y.bytes bytes × Has next y.to)
 
 -- and so on, in turn
 abbrev pub Forces : List Way → Bool → List ℕ → List ByteClass → Type 0

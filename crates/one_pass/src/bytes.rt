@@ -5,7 +5,7 @@
 //! sets at once: programs are noted over some bytes, and then run one behind another, so that room for cells is asked for once.
 //! Where nothing is known, the sources are stepped one by one, and what they did is kept.
 ghost use Rattle.std.specs.Prelude.{◌≡◌, ℕ, ◌+◌, ◌*◌, ◌^◌, ◌<◌, ◌≤◌, [], ◌∷◌, length, take, IfErr, IfOk, IfSome, OnOk, Some, None};
-ghost use Rattle.one_pass.specs.Going.{GivesUp, GoesOn, Reads};
+ghost use Rattle.one_pass.specs.Going.{GivesUp, GoesOn, PassReads};
 ghost use Rattle.one_pass.specs.Known.{Stands};
 ghost use Rattle.one_pass.specs.Numbered.{IsAhead, IsNumbered, IsReadTo, StandsIn, as_layer};
 ghost use Rattle.one_pass.specs.Places.{byte_at, bytes_at};
@@ -271,7 +271,7 @@ impl Pass {
         requires goes_on { GoesOn table.old (as_layer layer self.old) }
         requires stands { StandsIn table.old self.old.graph self.old.known layer }
         requires few { self.old.at + 1 < 2 ^ 32 }
-        ensures read { IfOk result (λ next. Reads (byte_at self.old.at byte ∷ []) table.old (as_layer layer self.old) steps.old table.new (as_layer next self.new) steps.new) }
+        ensures read { IfOk result (λ next. PassReads (byte_at self.old.at byte ∷ []) table.old (as_layer layer self.old) steps.old table.new (as_layer next self.new) steps.new) }
         ensures at { OnOk result (self.new.at ≡ self.old.at + 1) }
         ensures stands { IfOk result (λ next. StandsIn table.new self.new.graph self.new.known next) }
         ensures given_up { IfErr result (GivesUp (byte_at self.old.at byte ∷ []) table.old (as_layer layer self.old) steps.old table.new steps.new) }
@@ -304,7 +304,7 @@ impl Pass {
         requires goes_on { GoesOn table.old self.old }
         requires stands { Stands table.old self.old.graph self.old.known layer }
         requires few { self.old.at + 1 < 2 ^ 32 }
-        ensures read { OnOk result (Reads (byte_at self.old.at byte ∷ []) table.old self.old steps.old table.new self.new steps.new) }
+        ensures read { OnOk result (PassReads (byte_at self.old.at byte ∷ []) table.old self.old steps.old table.new self.new steps.new) }
         ensures at { OnOk result (self.new.at ≡ self.old.at + 1) }
         ensures stands { IfOk result (Stands table.new self.new.graph self.new.known) }
         ensures given_up { IfErr result (GivesUp (byte_at self.old.at byte ∷ []) table.old self.old steps.old table.new steps.new) }

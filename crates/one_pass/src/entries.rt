@@ -3,7 +3,7 @@
 //! A layer has one entry for each class of bytes, and tells for each byte whether it was asked: so an entry that was made
 //! for one byte of a class serves another only where that was asked as well.
 ghost use Rattle.std.specs.Prelude.{◌≡◌, ◌⊎◌, ℕ, ◌+◌, ◌*◌, ◌<◌, ◌≤◌, max, length, slice_index_or, IfSome, IsTrue};
-ghost use Rattle.one_pass.specs.Entered.{has_entry, is_entered, place_in};
+ghost use Rattle.one_pass.specs.Entered.{has_entry, is_entered, entry_place};
 ghost use Rattle.one_pass.specs.declared.entries.Entry.TheVariants.{Unknown as unknown};
 
 use crate::classes::{BYTES, Classes};
@@ -37,7 +37,7 @@ pub(crate) struct Entries {
     pub(crate) asked: Vec<ByteSet>,
     pub(crate) entered: Vec<Entry>,
     ghost room: { classes.count * length asked.items ≤ length entered.items },
-    ghost some: { (k b : ℕ) → b < 256 → IsTrue (has_entry asked.items k b) → IsTrue (is_entered (slice_index_or entered.items (place_in classes.count classes.numbers k b) unknown)) },
+    ghost some: { (k b : ℕ) → b < 256 → IsTrue (has_entry asked.items k b) → IsTrue (is_entered (slice_index_or entered.items (entry_place classes.count classes.numbers k b) unknown)) },
 }
 
 impl Entries {
@@ -81,7 +81,7 @@ impl Entries {
     #[inline(always)]
     fn place(&self, layer: usize, byte: u8) -> usize
         requires { layer < length self.now.asked.items }
-        ensures value { result ≡ place_in self.now.classes.count self.now.classes.numbers layer byte }
+        ensures value { result ≡ entry_place self.now.classes.count self.now.classes.numbers layer byte }
         ensures within { result < length self.now.entered.items }
     {
         self.classes.count * layer + self.classes.numbers[byte as usize] as usize

@@ -76,7 +76,7 @@ impl Known {
     }
 
     /// Whether more of whole layers may be kept.
-    pub fn has_room(&self) -> bool {
+    pub(crate) fn has_room(&self) -> bool {
         self.left >= MOST_LAYER_WORDS
     }
 

@@ -3,12 +3,13 @@
 //! What a table answered is determined by the automaton alone, and what is known of its layers by the table; so both serve each
 //! document, and only their size grows.
 ghost use Rattle.std.specs.Prelude.{◌≡◌, ℕ, ◌+◌, ◌^◌, ◌≤◌, length, IfErr, IfOk, OnOk};
+ghost use Rattle.std.specs.Bool.{OnTrue};
 ghost use Rattle.span_core.specs.Intervals.{Covers};
 ghost use Rattle.automaton_reading.specs.Reading.{edges_K};
 ghost use Rattle.output_graph.specs.Order.{AreInOrder};
 ghost use Rattle.output_graph.specs.Rows.{rows};
 ghost use Rattle.set_table.specs.Laid.{taken_up};
-ghost use Rattle.set_table.specs.Tabled.{IsRefusal, fresh};
+ghost use Rattle.set_table.specs.Tabled.{IsRefusal, fresh, weight};
 ghost use Rattle.one_pass.specs.Builds.{IsNew, build};
 ghost use Rattle.one_pass.specs.Faults.{IsReadFault};
 ghost use Rattle.one_pass.specs.Passes.{HasKept};
@@ -17,12 +18,12 @@ ghost use Rattle.one_pass.specs.Readings.{IsKeptOf};
 ghost use Rattle.one_pass.specs.Weights.{WeighsWithin};
 
 use crate::known::{Known, MOST_WORDS};
+use crate::pass::Pass;
 use crate::places::EndedPass;
-use crate::reading::read_with;
 use marked_automaton::Automaton;
 use output_graph::RowLists;
 use set_table::{Table, TableFault, TableState};
-use span_core::{Steps, Touched};
+use span_core::{OutOfMemory, Steps, Touched};
 use std::alloc::Global;
 use std::marker::Model;
 use std::sync::ledger::Ledger;
@@ -118,11 +119,17 @@ impl<'a> KnownTable<'a> {
             limit,
             known,
         } = self;
-        let ended = match read_with(alloc, &mut table, known, doc, positions, steps) {
+        let mut pass = match Pass::begin_with(alloc, known, &table, steps) {
+            Ok(pass) => pass,
+            Err(OutOfMemory) => return Err(TableFault::OutOfMemory),
+        };
+        if let Err(fault) = pass.read_parts(&mut table, doc, positions.parts(), steps) {
+            return Err(fault);
+        }
+        let EndedPass { graph, known } = match pass.end_with(&mut table, steps) {
             Ok(ended) => ended,
             Err(fault) => return Err(fault),
         };
-        let EndedPass { graph, known } = ended;
         Ok(Listed {
             lists: graph.turn(steps),
             table: KnownTable {
@@ -134,7 +141,9 @@ impl<'a> KnownTable<'a> {
     }
 
     /// Whether it weighs no more than `most`, in cells as `Table::weight` counts them, and more of whole layers may be kept.
-    pub fn may_grow(&self, most: u64) -> bool {
+    pub fn may_grow(&self, most: u64) -> bool
+        ensures light { OnTrue result (weight self.now ≤ most) }
+    {
         self.table.weight() <= most && self.known.has_room()
     }
 

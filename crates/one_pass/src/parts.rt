@@ -1,7 +1,7 @@
 //! Intervals of positions that ascend, with the gaps before, between and behind them.
 ghost use Rattle.std.specs.Prelude.{◌≡◌, ℕ, ◌+◌, ◌*◌, ◌^◌, ◌≤◌, min, length, IfErr, OnErr, OnOk};
 ghost use Rattle.span_core.specs.Intervals.{AreApart, Covers};
-ghost use Rattle.one_pass.specs.Going.{GivesUp, GoesOn, Reads};
+ghost use Rattle.one_pass.specs.Going.{GivesUp, GoesOn, PassReads};
 ghost use Rattle.one_pass.specs.Places.{part_places, parts_places};
 
 use crate::pass::Pass;
@@ -10,31 +10,6 @@ use span_core::Steps;
 use std::sync::ledger::Ledger;
 
 impl Pass {
-    /// Reads an interval of positions and the gap before it.
-    fn read_part<L: Ledger>(
-        &mut self,
-        table: &mut Table<'_>,
-        doc: &[u8],
-        part: (u32, u32),
-        steps: &mut Steps<L>,
-    ) -> Result<(), TableFault>
-        requires goes_on { GoesOn table.old self.old }
-        requires later { self.old.at ≤ part.0 }
-        requires rising { part.0 ≤ part.1 }
-        requires within { part.1 ≤ length doc.now }
-        requires few { length doc.now ≤ 2 ^ 28 }
-        ensures read { OnOk result (Reads (part_places self.old.at part doc.now) table.old self.old steps.old table.new self.new steps.new) }
-        ensures at { OnOk result (self.new.at ≡ min (part.1 + 1) (length doc.now)) }
-        ensures given_up { IfErr result (GivesUp (part_places self.old.at part doc.now) table.old self.old steps.old table.new steps.new) }
-    {
-        if let Err(fault) = self.skip(table, part.0, steps) {
-            return Err(fault);
-        }
-        let first = part.0 as usize;
-        let end = (part.1 as usize + 1).min(doc.len());
-        self.read(table, &doc[first..end], steps)
-    }
-
     /// Reads intervals of positions that ascend, and the gaps before, between and behind them.
     pub(crate) fn read_parts<L: Ledger>(
         &mut self,
@@ -48,16 +23,21 @@ impl Pass {
         requires apart { AreApart parts.now }
         requires within { (q : ℕ) → Covers parts.now q → q ≤ length doc.now }
         requires few { length doc.now ≤ 2 ^ 28 }
-        ensures read { OnOk result (Reads (parts_places 0 parts.now doc.now) table.old self.old steps.old table.new self.new steps.new) }
+        ensures read { OnOk result (PassReads (parts_places 0 parts.now doc.now) table.old self.old steps.old table.new self.new steps.new) }
         ensures at { OnOk result (self.new.at ≡ length doc.now) }
         ensures given_up { IfErr result (GivesUp (parts_places 0 parts.now doc.now) table.old self.old steps.old table.new steps.new) }
     {
         let mut next = 0;
         for part in parts {
-            if let Err(fault) = self.read_part(table, doc, *part, steps) {
+            let (first, last) = *part;
+            if let Err(fault) = self.skip(table, first, steps) {
                 return Err(fault);
             }
-            next = part.1 + 1;
+            let end = (last as usize + 1).min(doc.len());
+            if let Err(fault) = self.read(table, &doc[first as usize..end], steps) {
+                return Err(fault);
+            }
+            next = last + 1;
         }
         if next as usize > doc.len() {
             return Ok(());

@@ -7,7 +7,7 @@
 ghost use Rattle.std.specs.Prelude.{◌≡◌, ℕ, ◌+◌, ◌-◌, ◌*◌, ◌^◌, ◌<◌, ◌≤◌, drop, length, take, IfErr, IfOk, IfSome, OnErr, OnOk};
 ghost use Rattle.set_table.specs.Tabled.{IsTabled};
 ghost use Rattle.one_pass.specs.Builds.{IsStarted};
-ghost use Rattle.one_pass.specs.Going.{GivesUp, GoesOn, Reads, come};
+ghost use Rattle.one_pass.specs.Going.{GivesUp, GoesOn, PassReads, come};
 ghost use Rattle.one_pass.specs.Ahead.{KnowsWaiting};
 ghost use Rattle.one_pass.specs.Known.{Knows};
 ghost use Rattle.one_pass.specs.Numbered.{IsNumbered, StandsIn, as_layer, in_layer};
@@ -90,7 +90,7 @@ impl Pass {
     ) -> Result<(), TableFault>
         requires goes_on { GoesOn table.old self.old }
         requires few { self.old.at + length piece.now < 2 ^ 32 }
-        ensures read { OnOk result (Reads (bytes_at self.old.at piece.now) table.old self.old steps.old table.new self.new steps.new) }
+        ensures read { OnOk result (PassReads (bytes_at self.old.at piece.now) table.old self.old steps.old table.new self.new steps.new) }
         ensures at { OnOk result (self.new.at ≡ self.old.at + length piece.now) }
         ensures given_up { IfErr result (GivesUp (bytes_at self.old.at piece.now) table.old self.old steps.old table.new steps.new) }
     {
@@ -190,7 +190,7 @@ impl Pass {
     ) -> Result<(), TableFault>
         requires goes_on { GoesOn table.old self.old }
         requires later { self.old.at ≤ to }
-        ensures read { OnOk result (Reads (gap_at self.old.at to) table.old self.old steps.old table.new self.new steps.new) }
+        ensures read { OnOk result (PassReads (gap_at self.old.at to) table.old self.old steps.old table.new self.new steps.new) }
         ensures at { OnOk result (self.new.at ≡ to) }
         ensures given_up { IfErr result (GivesUp (gap_at self.old.at to) table.old self.old steps.old table.new steps.new) }
     {

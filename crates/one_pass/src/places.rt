@@ -9,7 +9,7 @@ ghost use Rattle.automaton_reading.specs.Reading.{byte_read, ended, rest_taken};
 ghost use Rattle.output_graph.specs.Graph.{IsCost, IsPlace, IsStepped, sets_of};
 ghost use Rattle.output_graph.specs.Sound.{edges_of};
 ghost use Rattle.set_table.specs.Tabled.{IsRefusal, look_up, once_asked};
-ghost use Rattle.one_pass.specs.Going.{Ends, GivesUp, GivesUpEnd, GoesOn, Reads};
+ghost use Rattle.one_pass.specs.Going.{PassEnds, GivesUp, GivesUpEnd, GoesOn, PassReads};
 ghost use Rattle.one_pass.specs.Known.{Knows};
 ghost use Rattle.one_pass.specs.Passes.{AllStayOn, AreGiven};
 ghost use Rattle.one_pass.specs.Places.{byte_at, rest_at};
@@ -32,7 +32,7 @@ impl Pass {
     ) -> Result<(), TableFault>
         requires goes_on { GoesOn table.old self.old }
         requires few { self.old.at + 1 < 2 ^ 32 }
-        ensures read { OnOk result (Reads (byte_at self.old.at byte ∷ []) table.old self.old steps.old table.new self.new steps.new) }
+        ensures read { OnOk result (PassReads (byte_at self.old.at byte ∷ []) table.old self.old steps.old table.new self.new steps.new) }
         ensures at { OnOk result (self.new.at ≡ self.old.at + 1) }
         ensures given_up { IfErr result (GivesUp (byte_at self.old.at byte ∷ []) table.old self.old steps.old table.new steps.new) }
     {
@@ -59,7 +59,7 @@ impl Pass {
     ) -> Result<(), TableFault>
         requires goes_on { GoesOn table.old self.old }
         requires later { self.old.at ≤ to }
-        ensures read { OnOk result (Reads (rest_at self.old.at ∷ []) table.old self.old steps.old table.new self.new steps.new) }
+        ensures read { OnOk result (PassReads (rest_at self.old.at ∷ []) table.old self.old steps.old table.new self.new steps.new) }
         ensures at { OnOk result (self.new.at ≡ to) }
         ensures given_up { IfErr result (GivesUp (rest_at self.old.at ∷ []) table.old self.old steps.old table.new steps.new) }
     {
@@ -85,7 +85,7 @@ impl Pass {
         steps: &mut Steps<L>,
     ) -> Result<OutputGraph, TableFault>
         requires { GoesOn table.old self }
-        ensures ended { IfOk result (λ g. Ends table.old self steps.old table.new g steps.new) }
+        ensures ended { IfOk result (λ g. PassEnds table.old self steps.old table.new g steps.new) }
         ensures every { IfOk result (λ g. g.stepped ≡ length g.layer) }
         ensures only { IfOk result (λ g. (s : ℕ) → Has (sets_of g.next) s → s ≡ 0) }
         ensures given_up { IfErr result (GivesUpEnd table.old self steps.old table.new steps.new) }
@@ -103,7 +103,7 @@ impl Pass {
         steps: &mut Steps<L>,
     ) -> Result<EndedPass, TableFault>
         requires { GoesOn table.old self }
-        ensures ended { IfOk result (λ e. Ends table.old self steps.old table.new e.graph steps.new) }
+        ensures ended { IfOk result (λ e. PassEnds table.old self steps.old table.new e.graph steps.new) }
         ensures every { IfOk result (λ e. e.graph.stepped ≡ length e.graph.layer) }
         ensures only { IfOk result (λ e. (s : ℕ) → Has (sets_of e.graph.next) s → s ≡ 0) }
         ensures known { IfOk result (λ e. Knows table.new e.known) }

@@ -4,7 +4,6 @@ ghost use Rattle.span_core.specs.Intervals.{Covers};
 ghost use Rattle.automaton_reading.specs.Reading.{edges_K};
 ghost use Rattle.one_pass.specs.Builds.{IsNew, build};
 ghost use Rattle.one_pass.specs.Faults.{IsReadFault};
-ghost use Rattle.one_pass.specs.Known.{Knows};
 ghost use Rattle.one_pass.specs.Passes.{HasKept};
 ghost use Rattle.span_core.specs.Lists.{Has};
 ghost use Rattle.output_graph.specs.Graph.{sets_of};
@@ -12,9 +11,8 @@ ghost use Rattle.one_pass.specs.Places.{AreReadWords, is_touched};
 ghost use Rattle.one_pass.specs.Seen.{accepted_words};
 ghost use Rattle.one_pass.specs.Weights.{WeighsWithin};
 
-use crate::known::{Known, MOST_WORDS};
+use crate::known::MOST_WORDS;
 use crate::pass::Pass;
-use crate::places::EndedPass;
 use output_graph::OutputGraph;
 use set_table::{Table, TableFault};
 use span_core::{OutOfMemory, Steps, Touched};
@@ -49,51 +47,12 @@ pub fn read<L: Ledger>(
     ensures kept { OnErr result (HasKept table.old table.new) }
     ensures cause { IfErr result (λ e. IsReadFault table.old.graph (is_touched positions.now) doc.now table.old.limit e) }
 {
-    match read_with(
-        alloc,
-        table,
-        Known::new(alloc, MOST_WORDS),
-        doc,
-        positions,
-        steps,
-    ) {
-        Ok(ended) => Ok(ended.graph),
-        Err(fault) => Err(fault),
-    }
-}
-
-/// As `read`, by a table that may hold what other documents asked for, with what is known of its layers, which is given back.
-///
-/// `TableFault::Full` comes where all that the table holds and what this reading asks for weigh more than its limit: so only if
-/// the table was new is it the weight of this reading alone.
-pub(crate) fn read_with<L: Ledger>(
-    alloc: Global,
-    table: &mut Table<'_>,
-    known: Known,
-    doc: &[u8],
-    positions: &Touched,
-    steps: &mut Steps<L>,
-) -> Result<EndedPass, TableFault>
-    requires known { Knows table.old known }
-    requires few { length doc.now ≤ 2 ^ 28 }
-    requires within { (q : ℕ) → Covers positions.now q → q ≤ length doc.now }
-    ensures words { IfOk result (λ e. AreReadWords table.old.graph (is_touched positions.now) doc.now (accepted_words e.graph)) }
-    ensures ended { IfOk result (λ e. e.graph.stepped ≡ length e.graph.layer) }
-    ensures only { IfOk result (λ e. (s : ℕ) → Has (sets_of e.graph.next) s → s ≡ 0) }
-    ensures known { IfOk result (λ e. Knows table.new e.known) }
-    ensures weighs { OnOk result (WeighsWithin table.old.graph doc.now (is_touched positions.now) table.old.limit) }
-    ensures steps { IfOk result (λ e. steps.new + (2 * length e.graph.cells + 2) + 1 ≤ steps.old + build table.old.graph doc.now (is_touched positions.now)) }
-    ensures cells { IfOk result (λ e. length e.graph.cells ≤ edges_K table.old.graph doc.now (is_touched positions.now) + 1) }
-    ensures stopped { OnErr result (steps.new + 1 ≤ steps.old + build table.old.graph doc.now (is_touched positions.now)) }
-    ensures kept { HasKept table.old table.new }
-    ensures cause { IfErr result (λ e. IsNew table.old.graph table.old → IsReadFault table.old.graph (is_touched positions.now) doc.now table.old.limit e) }
-{
-    let mut pass = match Pass::begin_with(alloc, known, table, steps) {
+    let mut pass = match Pass::begin(alloc, MOST_WORDS, table, steps) {
         Ok(pass) => pass,
         Err(OutOfMemory) => return Err(TableFault::OutOfMemory),
     };
     if let Err(fault) = pass.read_parts(table, doc, positions.parts(), steps) {
         return Err(fault);
     }
-    pass.end_with(table, steps)
+    pass.end(table, steps)
 }

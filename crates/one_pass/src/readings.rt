@@ -3,9 +3,10 @@
 //! A caller keeps it between the pieces that come; laid down, it stands beside its automaton.
 ghost use Rattle.std.specs.Prelude.{◌≡◌, ℕ, ◌+◌, ◌^◌, ◌<◌, ◌≤◌, length, IfErr, IfOk, OnOk};
 ghost use Rattle.set_table.specs.Tabled.{IsRefusal, fresh};
-ghost use Rattle.one_pass.specs.Passes.{IsReady, pass};
+ghost use Rattle.one_pass.specs.Known.{Knows};
+ghost use Rattle.one_pass.specs.Passes.{IsReadyAt, pass};
 ghost use Rattle.one_pass.specs.Places.{bytes_at, gap_at};
-ghost use Rattle.one_pass.specs.Readings.{AreEnded, HasBegun, HasEndedCopy, HasListed, HasReadOn, IsEndFault, IsLaidOf, IsRefused, come_to, resumed};
+ghost use Rattle.one_pass.specs.Readings.{AreEnded, HasBegun, HasEndedCopy, HasListed, HasReadOn, IsEndFault, IsLaidOf, IsGivenUpAt, come_to, resumed};
 
 use crate::known::Known;
 use crate::pass::Pass;
@@ -91,7 +92,7 @@ impl<'a> Reading<'a> {
         requires few { self.at + length piece.now < 2 ^ 32 }
         ensures read { IfOk result (λ r. HasReadOn (bytes_at self.entry.at piece.now) self.entry steps.old r steps.new) }
         ensures at { IfOk result (λ r. r.at ≡ self.entry.at + length piece.now) }
-        ensures refused { IfErr result (IsRefused (bytes_at self.entry.at piece.now) self.entry steps.old steps.new) }
+        ensures refused { IfErr result (IsGivenUpAt (bytes_at self.entry.at piece.now) self.entry steps.old steps.new) }
     {
         let Reading {
             mut table,
@@ -109,7 +110,7 @@ impl<'a> Reading<'a> {
         requires later { self.at ≤ to }
         ensures read { IfOk result (λ r. HasReadOn (gap_at self.entry.at to) self.entry steps.old r steps.new) }
         ensures at { IfOk result (λ r. r.at ≡ to) }
-        ensures refused { IfErr result (IsRefused (gap_at self.entry.at to) self.entry steps.old steps.new) }
+        ensures refused { IfErr result (IsGivenUpAt (gap_at self.entry.at to) self.entry steps.old steps.new) }
     {
         let Reading {
             mut table,
@@ -140,7 +141,9 @@ impl<'a> Reading<'a> {
     }
 
     /// What is known of whole layers.
-    pub fn known(&self) -> &Known {
+    pub fn known(&self) -> &Known
+        ensures { Knows self.now.table result.now }
+    {
         &self.pass.known
     }
 
@@ -186,7 +189,7 @@ fn lists_of<L: Ledger>(
     at: u32,
     steps: &mut Steps<L>,
 ) -> Result<RowLists, TableFault>
-    requires ready { IsReady table.old graph.now at }
+    requires ready { IsReadyAt table.old graph.now at }
     requires few { at ≤ 2 ^ 28 }
     ensures ended { HasEndedCopy table.old.graph (pass table.old graph.now steps.old) (pass table.new graph.now steps.new) }
     ensures lists { IfOk result (AreEnded table.old.graph at (pass table.old graph.now steps.old)) }

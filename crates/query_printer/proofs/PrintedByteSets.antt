@@ -11,7 +11,7 @@ use Rattle.formula_parser.specs.Sets.{Bytes, single}
 use Rattle.formula_parser.specs.Runs.{begins_with}
 use Rattle.formula_parser.specs.Classes.{begins_range, SpellsItem, lone, range, SpellsItems, one_item, more_items, of_items}
 use Rattle.formula_parser.specs.Spells.{IsPlain, dot, class}
-use Rattle.query_printer.specs.PrintedFormula.{members, begins_run, run_end, byte_text, run_text, runs_text, set_text}
+use Rattle.query_printer.specs.PrintedFormula.{bytes_below, begins_run, run_end, byte_text, run_text, runs_text, set_text}
 use Rattle.formula_parser.proofs.ClassSets.{AreBytes, union_empty}
 use Rattle.query_printer.proofs.PrintedBytes.{byte_plain, byte_elem, byte_begins}
 use Rattle.query_printer.proofs.PrintedRuns.{by_bool, cases, begins_after, end_from, end_to, run_set, runs_set, runs_are, in_single, one_byte, dot_is}
@@ -139,7 +139,7 @@ one_text b (suc n) past =
     let no : begins_run (single b) n ≡ false = ap (λ v. v && (n == 0 || not (set.contains (single b) (n - 1)))) (in_single b n ∙ h) in
     ap (λ v. runs_text (single b) n ++ (if v then run_text n (run_end (single b) (255 - n) n) else [])) no ∙ append-nil (runs_text (single b) n) ∙ one_text b n low)
 
-one_is : (s : Bytes) → AreBytes s → members s 256 ≡ 1 → (after : List ℕ) → IsPlain of_bytes (runs_text s 256) (one s) after
+one_is : (s : Bytes) → AreBytes s → bytes_below s 256 ≡ 1 → (after : List ℕ) → IsPlain of_bytes (runs_text s 256) (one s) after
 one_is s bytes only after =
     let (b, small, same) = one_byte s bytes only in
     subst (λ r. IsPlain of_bytes (runs_text r 256) (one r) after) (sym same)
@@ -153,10 +153,10 @@ equal m n h = grind (arith, nat_tests)
 pub set_plain : (s : Bytes) → IsByteClass s → (after : List ℕ) → IsPlain of_bytes (set_text s) (one s) after
 unfolding set_text
 set_plain s built after =
-    by_bool (λ v. IsPlain of_bytes (if v then runs_text s 256 else if members s 256 == 255 && not (set.contains s 10) then 46 ∷ [] else 91 ∷ (runs_text s 256 ++ 93 ∷ [])) (one s) after)
-    (members s 256 == 1) (λ h. one_is s built.1 (equal (members s 256) 1 h) after)
-    (λ h. by_bool (λ v. IsPlain of_bytes (if v then 46 ∷ [] else 91 ∷ (runs_text s 256 ++ 93 ∷ [])) (one s) after) (members s 256 == 255 && not (set.contains s 10))
+    by_bool (λ v. IsPlain of_bytes (if v then runs_text s 256 else if bytes_below s 256 == 255 && not (set.contains s 10) then 46 ∷ [] else 91 ∷ (runs_text s 256 ++ 93 ∷ [])) (one s) after)
+    (bytes_below s 256 == 1) (λ h. one_is s built.1 (equal (bytes_below s 256) 1 h) after)
+    (λ h. by_bool (λ v. IsPlain of_bytes (if v then 46 ∷ [] else 91 ∷ (runs_text s 256 ++ 93 ∷ [])) (one s) after) (bytes_below s 256 == 255 && not (set.contains s 10))
     (λ k.
-    let parts = and_parts (members s 256 == 255) (not (set.contains s 10)) k in
-    subst (λ r. IsPlain of_bytes (46 ∷ []) (one r) after) (sym (dot_is s built.1 (equal (members s 256) 255 parts.0) (not-true (set.contains s 10) parts.1))) (dot refl))
+    let parts = and_parts (bytes_below s 256 == 255) (not (set.contains s 10)) k in
+    subst (λ r. IsPlain of_bytes (46 ∷ []) (one r) after) (sym (dot_is s built.1 (equal (bytes_below s 256) 255 parts.0) (not-true (set.contains s 10) parts.1))) (dot refl))
     (λ k. class_is s built after))

@@ -10,7 +10,7 @@ use Rattle.std.proofs.Math.Bool.{or-true}
 use Rattle.span_core.specs.ByteSets.{bytes_between}
 use Rattle.span_core.specs.ByteWordLaws.{contains-bytes_between}
 use Rattle.formula_parser.specs.Sets.{Bytes, single, all_but_newline}
-use Rattle.query_printer.specs.PrintedFormula.{members, begins_run, run_end}
+use Rattle.query_printer.specs.PrintedFormula.{bytes_below, begins_run, run_end}
 use Rattle.formula_parser.proofs.ClassSets.{AreBytes, or_cases}
 
 pub by_bool : (P : Bool → Type 0) (v : Bool) → (v ≡ true → P true) → (v ≡ false → P false) → P v
@@ -174,58 +174,58 @@ runs_are s bytes = same_members (runs_set s 256) s (λ q. both_ways (set.contain
 
 -- ---- how many bytes
 
-few_members : (s : Bytes) (n : ℕ) → members s n ≤ n
-unfolding members
+few_members : (s : Bytes) (n : ℕ) → bytes_below s n ≤ n
+unfolding bytes_below
 few_members s zero = omega arith
 few_members s (suc n) =
     let before = few_members s n in
-    by_bool (λ v. members s n + (if v then 1 else 0) ≤ suc n) (set.contains s n) (λ e. omega (arith, before)) (λ e. omega (arith, before))
+    by_bool (λ v. bytes_below s n + (if v then 1 else 0) ≤ suc n) (set.contains s n) (λ e. omega (arith, before)) (λ e. omega (arith, before))
 
-not_counted : (s : Bytes) (n r : ℕ) → set.contains s r ≡ false → r ≡ n → members s (suc n) ≡ members s n + 0
-unfolding members
-not_counted s n r lacks same = ap (λ v. members s n + (if v then 1 else 0)) (sym (ap (set.contains s) same) ∙ lacks)
+not_counted : (s : Bytes) (n r : ℕ) → set.contains s r ≡ false → r ≡ n → bytes_below s (suc n) ≡ bytes_below s n + 0
+unfolding bytes_below
+not_counted s n r lacks same = ap (λ v. bytes_below s n + (if v then 1 else 0)) (sym (ap (set.contains s) same) ∙ lacks)
 
-one_lacks : (s : Bytes) (n q : ℕ) → q < n → set.contains s q ≡ false → members s n + 1 ≤ n
-unfolding members
+one_lacks : (s : Bytes) (n q : ℕ) → q < n → set.contains s q ≡ false → bytes_below s n + 1 ≤ n
+unfolding bytes_below
 one_lacks s zero q within lacks = absurd (omega arith)
 one_lacks s (suc n) q within lacks =
-    cases (nat_le n q) (members s (suc n) + 1 ≤ suc n)
+    cases (nat_le n q) (bytes_below s (suc n) + 1 ≤ suc n)
     (λ h.
     let same : q ≡ n = grind (arith, nat_tests) in
     omega (arith, not_counted s n q lacks same, few_members s n))
     (λ h.
     let low : q < n = grind (arith, nat_tests) in
     let before = one_lacks s n q low lacks in
-    by_bool (λ v. (members s n + (if v then 1 else 0)) + 1 ≤ suc n) (set.contains s n) (λ e. omega (arith, before)) (λ e. omega (arith, before)))
+    by_bool (λ v. (bytes_below s n + (if v then 1 else 0)) + 1 ≤ suc n) (set.contains s n) (λ e. omega (arith, before)) (λ e. omega (arith, before)))
 
-two_lack : (s : Bytes) (n p q : ℕ) → p < n → q < n → p ≢ q → set.contains s p ≡ false → set.contains s q ≡ false → members s n + 2 ≤ n
-unfolding members
+two_lack : (s : Bytes) (n p q : ℕ) → p < n → q < n → p ≢ q → set.contains s p ≡ false → set.contains s q ≡ false → bytes_below s n + 2 ≤ n
+unfolding bytes_below
 two_lack s zero p q pn qn other one two = absurd (omega arith)
 two_lack s (suc n) p q pn qn other one two =
-    cases (nat_le n p) (members s (suc n) + 2 ≤ suc n)
+    cases (nat_le n p) (bytes_below s (suc n) + 2 ≤ suc n)
     (λ h.
     let same : p ≡ n = grind (arith, nat_tests) in
     let low : q < n = omega (arith, same, other) in
     omega (arith, not_counted s n p one same, one_lacks s n q low two))
     (λ h.
     let low : p < n = grind (arith, nat_tests) in
-    cases (nat_le n q) (members s (suc n) + 2 ≤ suc n)
+    cases (nat_le n q) (bytes_below s (suc n) + 2 ≤ suc n)
     (λ k.
     let same : q ≡ n = grind (arith, nat_tests) in
     omega (arith, not_counted s n q two same, one_lacks s n p low one))
     (λ k.
     let below : q < n = grind (arith, nat_tests) in
     let before = two_lack s n p q low below other one two in
-    by_bool (λ v. (members s n + (if v then 1 else 0)) + 2 ≤ suc n) (set.contains s n) (λ e. omega (arith, before)) (λ e. omega (arith, before))))
+    by_bool (λ v. (bytes_below s n + (if v then 1 else 0)) + 2 ≤ suc n) (set.contains s n) (λ e. omega (arith, before)) (λ e. omega (arith, before))))
 
-none_in : (s : Bytes) (n q : ℕ) → members s n ≡ 0 → q < n → set.contains s q ≡ false
-unfolding members
+none_in : (s : Bytes) (n q : ℕ) → bytes_below s n ≡ 0 → q < n → set.contains s q ≡ false
+unfolding bytes_below
 none_in s zero q none within = absurd (omega arith)
 none_in s (suc n) q none within =
     cases (set.contains s n) (set.contains s q ≡ false)
-    (λ e. let counted : members s (suc n) ≡ members s n + 1 = ap (λ v. members s n + (if v then 1 else 0)) e in absurd (omega (arith, counted, none)))
+    (λ e. let counted : bytes_below s (suc n) ≡ bytes_below s n + 1 = ap (λ v. bytes_below s n + (if v then 1 else 0)) e in absurd (omega (arith, counted, none)))
     (λ e.
-    let counted : members s (suc n) ≡ members s n + 0 = ap (λ v. members s n + (if v then 1 else 0)) e in
+    let counted : bytes_below s (suc n) ≡ bytes_below s n + 0 = ap (λ v. bytes_below s n + (if v then 1 else 0)) e in
     cases (nat_le n q) (set.contains s q ≡ false) (λ h. let same : n ≡ q = grind (arith, nat_tests) in sym (ap (set.contains s) same) ∙ e)
     (λ h. let low : q < n = grind (arith, nat_tests) in none_in s n q (omega (arith, counted, none)) low))
 
@@ -235,7 +235,7 @@ pub record HasOne (s : Bytes) (n : ℕ) : Type 0 where
   pub within : the < n
   pub only : (q : ℕ) → q < n → set.contains s q ≡ (q == the)
 
-last_alone : (s : Bytes) (n : ℕ) → set.contains s n ≡ true → members s n ≡ 0 → (q : ℕ) → q < suc n → set.contains s q ≡ (q == n)
+last_alone : (s : Bytes) (n : ℕ) → set.contains s n ≡ true → bytes_below s n ≡ 0 → (q : ℕ) → q < suc n → set.contains s q ≡ (q == n)
 last_alone s n has none q within =
     cases (nat_le n q) (set.contains s q ≡ (q == n)) (λ h. let same : q ≡ n = grind (arith, nat_tests) in ap (set.contains s) same ∙ has ∙ grind (arith, nat_tests))
     (λ h. let low : q < n = grind (arith, nat_tests) in none_in s n q none low ∙ grind (arith, nat_tests))
@@ -251,16 +251,16 @@ one_more s n lacks h =
           (λ k. let low : q < n = grind (arith, nat_tests) in h.only q low);
     }
 
-one_in : (s : Bytes) (n : ℕ) → members s n ≡ 1 → HasOne s n
-unfolding members
+one_in : (s : Bytes) (n : ℕ) → bytes_below s n ≡ 1 → HasOne s n
+unfolding bytes_below
 one_in s zero one = absurd (omega (arith, one))
 one_in s (suc n) one =
     cases (set.contains s n) (HasOne s (suc n))
     (λ e.
-    let counted : members s (suc n) ≡ members s n + 1 = ap (λ v. members s n + (if v then 1 else 0)) e in
+    let counted : bytes_below s (suc n) ≡ bytes_below s n + 1 = ap (λ v. bytes_below s n + (if v then 1 else 0)) e in
     record { the = n; within = omega arith; only = last_alone s n e (omega (arith, counted, one)) })
     (λ e.
-    let counted : members s (suc n) ≡ members s n + 0 = ap (λ v. members s n + (if v then 1 else 0)) e in
+    let counted : bytes_below s (suc n) ≡ bytes_below s n + 0 = ap (λ v. bytes_below s n + (if v then 1 else 0)) e in
     one_more s n e (one_in s n (omega (arith, counted, one))))
 
 not_byte : (s : Bytes) → AreBytes s → (q : ℕ) → 256 ≤ q → set.contains s q ≡ false
@@ -271,7 +271,7 @@ not_byte s bytes q big = by (set.contains s q) refl
     by false e = e
 
 -- a set of one byte is that byte
-pub one_byte : (s : Bytes) → AreBytes s → members s 256 ≡ 1 → (b : ℕ) × (b < 256) × (s ≡ single b)
+pub one_byte : (s : Bytes) → AreBytes s → bytes_below s 256 ≡ 1 → (b : ℕ) × (b < 256) × (s ≡ single b)
 one_byte s bytes one =
     let h = one_in s 256 one in
     (h.the, h.within, same_members s (single h.the) (λ q. each h q (nat_le 256 q) refl ∙ sym (in_single h.the q)))
@@ -290,7 +290,7 @@ dot_has q =
     ∙ ap (λ v. nat_le q 255 && not v) (in_single 10 q)
 
 -- 255 bytes without 0A are all others
-pub dot_is : (s : Bytes) → AreBytes s → members s 256 ≡ 255 → set.contains s 10 ≡ false → s ≡ all_but_newline
+pub dot_is : (s : Bytes) → AreBytes s → bytes_below s 256 ≡ 255 → set.contains s 10 ≡ false → s ≡ all_but_newline
 dot_is s bytes many lacks = same_members s all_but_newline (λ q. each q (nat_le 256 q) refl (q == 10) refl (set.contains s q) refl ∙ sym (dot_has q))
   where
     each : (q : ℕ) (v : Bool) → nat_le 256 q ≡ v → (w : Bool) → (q == 10) ≡ w → (x : Bool) → set.contains s q ≡ x → set.contains s q ≡ (nat_le q 255 && not (q == 10))

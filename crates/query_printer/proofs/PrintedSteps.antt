@@ -2,19 +2,19 @@
 use Rattle.std.proofs.Common.{◌≡◌, ℕ, suc, ◌+◌, ◌-◌, ◌<◌, ◌≤◌, true, false, [], ◌++◌, ap, refl, ◌∙◌, arith, add-one, if◌then◌else◌}
 use Rattle.std.specs.FinSet as set
 use Rattle.formula_parser.specs.Sets.{Bytes}
-use Rattle.query_printer.specs.PrintedFormula.{members, begins_run, run_end, run_text, runs_text}
+use Rattle.query_printer.specs.PrintedFormula.{bytes_below, begins_run, run_end, run_text, runs_text}
 
-pub members_none : (s : Bytes) → members s 0 ≡ 0
-unfolding members
+pub members_none : (s : Bytes) → bytes_below s 0 ≡ 0
+unfolding bytes_below
 members_none s = refl
 
 pub runs_none : (s : Bytes) → runs_text s 0 ≡ []
 unfolding runs_text
 runs_none s = refl
 
-pub members_next : (s : Bytes) (n : ℕ) → members s (n + 1) ≡ members s n + (if set.contains s n then 1 else 0)
-unfolding members
-members_next s n = ap (members s) (add-one n)
+pub members_next : (s : Bytes) (n : ℕ) → bytes_below s (n + 1) ≡ bytes_below s n + (if set.contains s n then 1 else 0)
+unfolding bytes_below
+members_next s n = ap (bytes_below s) (add-one n)
 
 pub runs_next : (s : Bytes) (n : ℕ) → runs_text s (n + 1) ≡ runs_text s n ++ (if begins_run s n then run_text n (run_end s (255 - n) n) else [])
 unfolding runs_text

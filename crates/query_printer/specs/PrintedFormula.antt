@@ -34,9 +34,9 @@ byte_text b =
 -- ---- sets of bytes
 
 -- how many bytes below n are in the set
-unfoldable pub members : Bytes → ℕ → ℕ
-members s zero = 0
-members s (suc n) = members s n + (if set.contains s n then 1 else 0)
+unfoldable pub bytes_below : Bytes → ℕ → ℕ
+bytes_below s zero = 0
+bytes_below s (suc n) = bytes_below s n + (if set.contains s n then 1 else 0)
 
 -- a maximal run begins at b: b is in the set, and the byte before it, where there is one, is not
 abbrev pub begins_run : Bytes → ℕ → Bool
@@ -59,8 +59,8 @@ runs_text s (suc n) = runs_text s n ++ (if begins_run s n then run_text n (run_e
 -- one byte by itself, all bytes but 0A as `.`, any other set in brackets
 unfoldable pub set_text : Bytes → List ℕ
 set_text s =
-    if members s 256 == 1 then runs_text s 256
-    else if members s 256 == 255 && not (set.contains s 10) then 46 ∷ []
+    if bytes_below s 256 == 1 then runs_text s 256
+    else if bytes_below s 256 == 255 && not (set.contains s 10) then 46 ∷ []
     else 91 ∷ (runs_text s 256 ++ 93 ∷ [])
 
 -- ---- repeats

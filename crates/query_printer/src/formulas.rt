@@ -12,7 +12,7 @@ ghost use Rattle.formula_parser.specs.Spells.{given};
 ghost use Rattle.formula_parser.specs.Names.{head_text};
 ghost use Rattle.query_printer.specs.FormulaShape.{shape_of};
 ghost use Rattle.query_printer.specs.FormulaLaws.{FormulasSpell, AtomsSpell, AtomsStand};
-ghost use Rattle.query_printer.specs.PrintedFormula.{is_shown, hex_text, byte_text, members, begins_run, run_end, run_text, runs_text, set_text, sign, exactly_text, at_least_text, between_text, shape, wraps_arm, wraps_part, wraps_operand, wrapped, printed, tied_text, atom_text};
+ghost use Rattle.query_printer.specs.PrintedFormula.{is_shown, hex_text, byte_text, bytes_below, begins_run, run_end, run_text, runs_text, set_text, sign, exactly_text, at_least_text, between_text, shape, wraps_arm, wraps_part, wraps_operand, wrapped, printed, tied_text, atom_text};
 
 use cell_text::push_bytes;
 use itoa::Buffer;
@@ -316,7 +316,7 @@ fn push_class(set: &ByteSet, out: &mut Vec<u8>) -> Result<(), OutOfMemory>
 /// How many bytes are in the set.
 #[tactic(auto, using(crate::proofs::PrintedSteps::members_next))]
 fn members(set: &ByteSet) -> usize
-    ensures { result ≡ members set.now 256 }
+    ensures { result ≡ bytes_below set.now 256 }
 {
     let mut count = 0;
     for number in 0..256usize {

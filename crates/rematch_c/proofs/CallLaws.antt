@@ -20,7 +20,7 @@ use Rattle.rematch_c.specs.declared.open_rows.ReadOptions.{ReadOptions}
 use Rattle.rematch_c.specs.declared.short_text.ShortText.{ShortText}
 use Rattle.rematch_c.specs.Calls.{Compiled, Counted, Filled, Holds, IsNoQuery, IsNoRows, Named, Opened, Printed, Resumed, Shared}
 use Rattle.rematch_c.specs.Refusals.{IsReadRefusal, IsResumeRefusal, IsTextRefusal, IsWant, program}
-use Rattle.rematch_c.specs.Rows.{AreRowsBehind, AreRowsOf, IsRowIn, QueryRows, rows_within}
+use Rattle.rematch_c.specs.Rows.{AreRowsBehind, AreAllRowsOf, IsRowIn, QueryRows, rows_within}
 use Rattle.rematch_c.specs.Texts.{IsText}
 
 -- ---- what is held
@@ -109,7 +109,7 @@ shared_none home other number empty none is =
 -- ---- a document
 
 pub opened : (held : Held) (p : PreparedQuery) (d : List ℕ) (options : ReadOptions) (r : QueryRows) (home : Option Held) (old note : ShortText) (how : Status) → held ≡ Query p →
-    AreRowsOf p d r → IsText old [] → Holds (Rows r) old home note how → Opened (Some held) d options home note (exit_status_of how)
+    AreAllRowsOf p d r → IsText old [] → Holds (Rows r) old home note how → Opened (Some held) d options home note (exit_status_of how)
 opened held p d options r home old note how is rows silent Holds.holds = Opened.opened (ap Some is) rows silent
 opened held p d options r home old note how is rows silent (Holds.want want) = Opened.refused status.Memory (ap Some is) (inr (OutOfMemory, tt, (refl, want)))
 

@@ -14,7 +14,7 @@ use Rattle.rematch_c.specs.declared.held.Held.TheVariants.{Query, Rows}
 use Rattle.rematch_c.specs.declared.open_rows.ReadOptions.{ReadOptions}
 use Rattle.rematch_c.specs.declared.short_text.ShortText.{ShortText}
 use Rattle.rematch_c.specs.Refusals.{IsReadRefusal, IsResumeRefusal, IsTextRefusal, IsWant, program}
-use Rattle.rematch_c.specs.Rows.{AreRowsBehind, AreRowsOf, IsRowIn, QueryRows, rows_within}
+use Rattle.rematch_c.specs.Rows.{AreRowsBehind, AreAllRowsOf, IsRowIn, QueryRows, rows_within}
 use Rattle.rematch_c.specs.Texts.{IsText}
 
 -- no compiled query is held
@@ -58,7 +58,7 @@ pub data Shared : Option Held → Option Held → ℕ → Type 0 where
 
 -- a document was read, or refused
 pub data Opened (held : Option Held) (document : List ℕ) (options : ReadOptions) : Option Held → ShortText → ℕ → Type 0 where
-  opened : {p : PreparedQuery} {r : QueryRows} {note : ShortText} → held ≡ Some (Query p) → AreRowsOf p document r → IsText note [] →
+  opened : {p : PreparedQuery} {r : QueryRows} {note : ShortText} → held ≡ Some (Query p) → AreAllRowsOf p document r → IsText note [] →
       Opened held document options (Some (Rows r)) note 0
   refused : {p : PreparedQuery} {note : ShortText} (how : Status) → held ≡ Some (Query p) → IsReadRefusal p document options None how note →
       Opened held document options None note (exit_status_of how)

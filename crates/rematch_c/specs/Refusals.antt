@@ -15,7 +15,7 @@ use Rattle.spanner_model.specs.Passing.{Known, known}
 use Rattle.query_parser.specs.Binding.{HasFaultUnder, IsOnlyTested}
 use Rattle.spanner_library.specs.Library.{PreparedQuery, tree}
 use Rattle.known_tests.specs.Relations.{known_tests, relation}
-use Rattle.note_texts.specs.Notes.{counted, fault_note, filter_note, other_document_note, size_note, table_note}
+use Rattle.note_texts.specs.Notes.{number_between, fault_note, filter_note, other_document_note, size_note, table_note}
 use Rattle.rm_outside.specs.declared.status.Status.{Status}
 use Rattle.rm_outside.specs.declared.status.Status.TheVariants as status
 use Rattle.rematch_c.specs.declared.open_rows.ReadOptions.{ReadOptions}
@@ -39,7 +39,7 @@ IsTextRefusal text _ note = ⊥
 
 -- a document is too long, or memory is wanting
 abbrev pub IsLongRefusal : Status → ShortText → Type 0
-IsLongRefusal status.Long note = IsText note (counted (codes "document longer than ") (2 ^ 28) (codes " bytes"))
+IsLongRefusal status.Long note = IsText note (number_between (codes "document longer than ") (2 ^ 28) (codes " bytes"))
 IsLongRefusal status.Memory note = IsWant note
 IsLongRefusal _ note = ⊥
 

@@ -25,16 +25,16 @@ rows_code =
     (λ r. (r.query, (r.document, r.rest))) (λ t. record { query = t.0; document = t.1.0; rest = t.1.1 }) (λ _. refl)
 
 -- these are the last answers of the query on the document, which is not too long
-abbrev pub AreRows : PreparedQuery → List ℕ → List SpanRow → Type 0
-AreRows p d rest = (length d ≤ 2 ^ 28) × AreLast (tree p).query d p.names rest
+abbrev pub AreLastRows : PreparedQuery → List ℕ → List SpanRow → Type 0
+AreLastRows p d rest = (length d ≤ 2 ^ 28) × AreLast (tree p).query d p.names rest
 
 -- the answers of the query on the document behind this row are to come, or all
 abbrev pub AreRowsAfter : PreparedQuery → List ℕ → Option SpanRow → QueryRows → Type 0
 AreRowsAfter p d after r = (r.query ≡ p) × (r.document ≡ d) × AreLeft (tree p).query d p.names after r.rest
 
 -- all answers of the query on the document are to come
-abbrev pub AreRowsOf : PreparedQuery → List ℕ → QueryRows → Type 0
-AreRowsOf p d = AreRowsAfter p d None
+abbrev pub AreAllRowsOf : PreparedQuery → List ℕ → QueryRows → Type 0
+AreAllRowsOf p d = AreRowsAfter p d None
 
 -- the same behind the row that a cursor keeps
 pub record AreRowsBehind (p : PreparedQuery) (d cursor : List ℕ) (r : QueryRows) : Type 0 where

@@ -52,7 +52,7 @@ pub struct OpenRows {
 }
 
 impl Model for OpenRows {
-    ghost use Rattle.rematch_c.specs.Rows.{AreRows, QueryRows, rows_code};
+    ghost use Rattle.rematch_c.specs.Rows.{AreLastRows, QueryRows, rows_code};
 
     ghost Value = { QueryRows };
 
@@ -64,7 +64,7 @@ impl Model for OpenRows {
       rest = r.rows.rest;
     } };
 
-    ghost invariant = { λ r. AreRows r.query r.document.items r.rows.rest };
+    ghost invariant = { λ r. AreLastRows r.query r.document.items r.rows.rest };
 }
 
 impl OpenRows {

@@ -32,7 +32,7 @@ use Rattle.spanner_engine.specs.Filtering.{AreWithin}
 use Rattle.spanner_model.specs.Passing.{AreKnown, Check, Known, checks_of, known}
 use Rattle.query_parser.specs.Binding.{HasFaultUnder, IsOnlyTested}
 use Rattle.note_texts.specs.Outcomes.{Is, IsOutOfMemory, Reports}
-use Rattle.note_texts.specs.Notes.{counted, fault_note, filter_note, line, other_document_note, states_note, table_note, ways_note}
+use Rattle.note_texts.specs.Notes.{number_between, fault_note, filter_note, line, other_document_note, states_note, table_note, ways_note}
 use Rattle.rematch_program.specs.Steps.{KeepsWithin}
 use Rattle.rematch_program.specs.Trials.{trial_summary}
 use Rattle.rematch_program.specs.Pages.{IsAfter, CursorFits, page_text, last_note}
@@ -153,7 +153,7 @@ module _ (a : RequestView) (q : QueryTree) (checks : List Check) (w : Work) (end
     -- with the place where the page begins
     pub data FromPlace (names : List VarName) (after : Option Kept) : Type 0 where
       document_failed : FetchFailed s a.document → Is end note status.Read (codes "read failed: document") → DidNothing w → FromPlace names after
-      document_too_long : IsTooLong s a.document DOCUMENT_LIMIT → Is end note status.Long (counted (codes "document longer than ") DOCUMENT_LIMIT (codes " bytes")) → DidNothing w → FromPlace names after
+      document_too_long : IsTooLong s a.document DOCUMENT_LIMIT → Is end note status.Long (number_between (codes "document longer than ") DOCUMENT_LIMIT (codes " bytes")) → DidNothing w → FromPlace names after
       out_of_memory : Fetches s a.document → IsOutOfMemory end note → DidNothing w → FromPlace names after
       found : (document : Text) → Gives s a.document DOCUMENT_LIMIT document → FromDocument names after document → FromPlace names after
 
@@ -198,7 +198,7 @@ module _ (s : Shelved) (w : Work) (end : Status) (note : Text) where
     pub data FromRequest (a : RequestView) : Type 0 where
       given : (text : Text) → a.query ≡ Itself text → FromText s w end note k a text → FromRequest a
       query_failed : (name : Text) → a.query ≡ HeldBy name → FetchFailed s name → Is end note status.Read (codes "read failed: query") → DidNothing w → FromRequest a
-      query_too_long : (name : Text) → a.query ≡ HeldBy name → IsTooLong s name QUERY_LIMIT → Is end note status.Query (counted (codes "query: longer than ") QUERY_LIMIT (codes " bytes")) → DidNothing w → FromRequest a
+      query_too_long : (name : Text) → a.query ≡ HeldBy name → IsTooLong s name QUERY_LIMIT → Is end note status.Query (number_between (codes "query: longer than ") QUERY_LIMIT (codes " bytes")) → DidNothing w → FromRequest a
       out_of_memory : (name : Text) → a.query ≡ HeldBy name → Fetches s name → IsOutOfMemory end note → DidNothing w → FromRequest a
       fetched : (name : Text) → a.query ≡ HeldBy name → (text : Text) (between : Told) → Gives (shelved s.before between) name QUERY_LIMIT text →
           FromText (shelved between s.after) w end note k a text → FromRequest a

@@ -10,9 +10,9 @@ abbrev pub summary_row : List VarName → List ℕ → Option SpanRow → Option
 summary_row names d row = option_map (λ r. spans_text names r d false) row
 
 -- of a first row and one later than it, that which is there and later
-abbrev pub last_of : Option SpanRow → Option SpanRow → Option SpanRow
-last_of first None = first
-last_of first (Some row) = Some row
+abbrev pub later_row : Option SpanRow → Option SpanRow → Option SpanRow
+later_row first None = first
+later_row first (Some row) = Some row
 
 -- the summary of these rows, all answers on the document of so many lines
 abbrev pub trial_summary : ℕ → List VarName → List ℕ → List SpanRow → List ℕ

@@ -7,7 +7,7 @@ ghost use Rattle.note_texts.specs.Notes.{line, note_bytes};
 ghost use Rattle.rematch_program.specs.Pages.{FitsPage};
 ghost use Rattle.rematch_program.specs.Run.{FromPage};
 ghost use Rattle.rematch_program.specs.Taking.{AllTaken, coming};
-ghost use Rattle.rematch_program.specs.Trials.{last_of, summary_row, trial_summary};
+ghost use Rattle.rematch_program.specs.Trials.{later_row, summary_row, trial_summary};
 ghost use Rattle.trial_maker.specs.Summary.{number_line, row_line};
 
 use note_texts::{FixedNote, Outcome};
@@ -59,7 +59,7 @@ fn count_rows<J: Judge, L: Ledger>(rows: &mut TestedRows<'_, J>, steps: &mut Ste
     ensures source { rows.new.source ≡ rows.old.source }
     ensures rows { result.rows ≡ min (length (coming J.judges rows.old)) (2 ^ 64 - 1) }
     ensures first { result.first ≡ slice_get (coming J.judges rows.old) 0 }
-    ensures last { last_of result.first result.later ≡ page_end (coming J.judges rows.old) None }
+    ensures last { later_row result.first result.later ≡ page_end (coming J.judges rows.old) None }
     ensures first_fits { IfSome result.first (FitsPage (length rows.old.source.names) (length rows.old.source.document)) }
     ensures later_fits { IfSome result.later (FitsPage (length rows.old.source.names) (length rows.old.source.document)) }
     ensures steps { AllTaken J.judges rows.old (clock steps.old steps.new) }
@@ -100,7 +100,7 @@ fn summary(
     ensures { IfOk result (λ text. text.items ≡
         number_line (codes "lines") lines ++ number_line (codes "bytes") (length document.now) ++ number_line (codes "rows") counted.now.rows
         ++ row_line (codes "first") (summary_row vars.now document.now counted.now.first)
-        ++ row_line (codes "last") (summary_row vars.now document.now (last_of counted.now.first counted.now.later))) }
+        ++ row_line (codes "last") (summary_row vars.now document.now (later_row counted.now.first counted.now.later))) }
 {
     let (bytes, rows) = (document.len(), counted.rows);
     let head = format!(in alloc; "lines {lines}\nbytes {bytes}\nrows {rows}\n")?;

@@ -20,7 +20,7 @@ use Rattle.std.proofs.lemmas.List.{take_all}
 use Rattle.std.proofs.lemmas.Bool.Decides.{nat_tests}
 use Rattle.session_server.specs.Replies.{Session, begun, giving, row_data, to_come}
 use Rattle.session_server.specs.Rows.{array_of, rows_text, with_row}
-use Rattle.session_server.specs.Standing.{GivesOne, GivesSoFar, HasGiven, IsKept, IsReadOn, IsSession, IsSessionOver, next_row}
+use Rattle.session_server.specs.Standing.{GivesOne, GivesSoFar, HasGiven, IsKeptSession, IsReadOn, IsSession, IsSessionOver, next_row}
 use Rattle.session_server.proofs.RowTexts.{array_text, row_behind}
 use Rattle.spanner_model.specs.Passing.{AreKnown, Check, Known, checks_of, passing}
 use Rattle.spanner_engine.specs.Trying.{IsNextPassing}
@@ -101,7 +101,7 @@ some_next false row = refl
 abbrev pub as_stored : CodeSession → Session → Session
 as_stored c s = record s { query = tested_of c.tested; document = c.growing.document }
 
-pub same_session : (k : Known) (c : CodeSession) (s : Session) → IsKept k c s → as_stored c s ≡ s
+pub same_session : (k : Known) (c : CodeSession) (s : Session) → IsKeptSession k c s → as_stored c s ≡ s
 same_session k c s o =
     ap (λ (q : TestedTree). record s { query = q; document = c.growing.document }) o.query
     ∙ ap (λ (d : List ℕ). record s { document = d }) o.growing.holds

@@ -16,7 +16,7 @@ use Rattle.query_automaton.specs.CompiledQuery.{IsCompiled}
 use Rattle.one_pass.specs.Places.{sets_met}
 use Rattle.one_pass.proofs.Sets.{weight_covers}
 use Rattle.growing_document.specs.Faults.{IsAppendFault, IsRowsFault, IsWeightFault}
-use Rattle.growing_document.specs.Grown.{AreBytes, AreRowsRead, Grown, IsAppended, IsAsked, at_start}
+use Rattle.growing_document.specs.Grown.{AreBytes, AreRowsRead, Grown, IsAppended, HasAskedRows, at_start}
 use Rattle.growing_document.specs.Lengths.{IsAskedAt, ends_at, weight_at}
 use Rattle.growing_document.specs.Numbers.{questions_in, end_look_ups_at, first_sets, look_ups_in, sets_in}
 use Rattle.growing_document.specs.declared.fault.GrowFault.{GrowFault}
@@ -32,7 +32,7 @@ use Rattle.session_server.specs.declared.TheConstants.{MOST_GROWN, SESSION_TABLE
 use Rattle.session_server.specs.declared.session.Session.{Session as CodeSession}
 use Rattle.session_server.specs.declared.session.Halt.{Halt}
 use Rattle.session_server.specs.Replies.{IsHeavy, Session, asking, giving, growing, json_rows, to_come}
-use Rattle.session_server.specs.Standing.{GivesPage, HasGiven, IsGrowHalt, IsKept, IsReadOn, IsRowsHalt, IsSession, IsSessionOver, IsStartHalt, IsWaiting, halt_of}
+use Rattle.session_server.specs.Standing.{GivesPage, HasGiven, IsGrowHalt, IsKeptSession, IsReadOn, IsRowsHalt, IsSession, IsSessionOver, IsStartHalt, IsWaiting, halt_of}
 use Rattle.session_server.proofs.Giving.{as_option, comes_first}
 
 -- ---- what is held
@@ -51,7 +51,7 @@ module _ (q : QueryTree) (d asked : List ℕ) (names : List VarName) (g h : Grow
     held = lengths_law.appended g h piece asked r.held a;
   }
 
-  pub asked_again : IsAsked g h → IsReadOn q d (length d ∷ asked) names h
+  pub asked_again : HasAskedRows g h → IsReadOn q d (length d ∷ asked) names h
   asked_again a = record {
     compiled = subst (IsCompiled q) (sym a.automaton) r.compiled;
     named = ap (λ (A : Marked). A.names) a.automaton ∙ r.named;
@@ -129,7 +129,7 @@ halt_at_rows q d names g (fault.TooLong seen) r f = tt
 halt_at_rows q d names g fault.Spent r f = tt
 halt_at_rows q d names g fault.OutOfMemory r f = tt
 
-pub kept_of : (k : Known) (c : CodeSession) (s : Session) → IsSession k c s → IsKept k c s
+pub kept_of : (k : Known) (c : CodeSession) (s : Session) → IsSession k c s → IsKeptSession k c s
 kept_of k c s (inl (all, o)) = o.kept
 kept_of k c s (inr w) = w.kept
 
@@ -181,7 +181,7 @@ abbrev asked_now : Session → Bool → List ℕ
 asked_now s b = if b then length s.document ∷ s.asked else s.asked
 
 -- its rows are asked for: what is had of them is all answers
-module _ (k : Known) (c : CodeSession) (s : Session) (h : Grown) (whole old : List SpanRow) (e : List ℕ) (held : e ≡ h.document) (a : IsAsked c.growing h)
+module _ (k : Known) (c : CodeSession) (s : Session) (h : Grown) (whole old : List SpanRow) (e : List ℕ) (held : e ≡ h.document) (a : HasAskedRows c.growing h)
     (are : AreRowsRead c.growing.automaton c.growing.document whole) (fresh : old ≡ whole) (w : IsWaiting k c s) where
   same : e ≡ s.document
   same = held ∙ a.document ∙ w.kept.growing.holds
@@ -256,7 +256,7 @@ module _ (q : QueryTree) (A : Marked) (d : List ℕ) (made : IsCompiled q A) (g 
     pub start_rows : (e : GrowFault) (h : Halt) → h ≡ halt_of e → IsRowsFault more e → IsStartHalt q d h
     start_rows e h is f = subst (IsStartHalt q d) (sym is) (halt_at_rows q d A.names more e whole_read f)
 
-    pub start_held : (asked : Grown) → IsAsked more asked → IsReadOn q d (length d ∷ []) A.names asked
+    pub start_held : (asked : Grown) → HasAskedRows more asked → IsReadOn q d (length d ∷ []) A.names asked
     start_held asked b = asked_again q d [] A.names more asked whole_read b
 
     pub start_answers : (whole rest : List SpanRow) → AreBytes d → AreRowsRead more.automaton more.document whole → rest ≡ whole → AreAnswers q d A.names rest

@@ -12,7 +12,7 @@ use Rattle.rm_outside.specs.declared.source.LineFault.TheVariants.{TooLong}
 use Rattle.rm_outside.proofs.LineLaws.{next_is}
 use Rattle.rm_outside.specs.declared.status.Status.{Status}
 use Rattle.rm_outside.specs.declared.status.Status.TheVariants as status
-use Rattle.note_texts.specs.Notes.{counted, line}
+use Rattle.note_texts.specs.Notes.{number_between, line}
 use Rattle.spanner_model.specs.Passing.{Known}
 use Rattle.session_server.specs.declared.TheConstants.{MOST_LINE_BYTES}
 use Rattle.session_server.specs.declared.answering.Opened.{Opened}
@@ -71,7 +71,7 @@ module _ (k : Known) (most : ℕ) (start now before after : Option (List ℕ)) (
     pub ends_failed : Failed source → ServesLines k most source out status.Read (line (codes "read failed: requests"))
     ends_failed failed = source_failed s.texts s.replies now took failed few_texts run added (record { ends = refl; says = refl })
 
-    pub ends_long : IsNextLong MOST_LINE_BYTES now → ServesLines k most source out status.Long (line (counted (codes "request longer than ") MOST_LINE_BYTES (codes " bytes")))
+    pub ends_long : IsNextLong MOST_LINE_BYTES now → ServesLines k most source out status.Long (line (number_between (codes "request longer than ") MOST_LINE_BYTES (codes " bytes")))
     ends_long long = line_too_long s.texts s.replies now took long few_texts run added (record { ends = refl; says = refl })
 
     pub ends_many : (text : List ℕ) → TakesLine now text source.new.bytes → most ≤ served → ServesLines k most source out status.Long (line (codes "too many requests"))

@@ -13,11 +13,11 @@ use Rattle.session_server.specs.declared.session.Session.{Session as CodeSession
 use Rattle.std.proofs.lemmas.Bool.Decides.{nat_tests}
 use Rattle.spanner_model.specs.Passing.{Known}
 use Rattle.session_server.specs.declared.answering.Opened.{Opened}
-use Rattle.session_server.specs.Replies.{Answers, IsRefused, IsReply, begun, closes, closed, error_of, full, no_request, opened, opens, refused, taken, to_no_request, to_request, wants_memory, Reply, reply_text, Session, Sessions, session_of, with_session, without}
+use Rattle.session_server.specs.Replies.{Answers, IsRefused, IsReply, begun, closes, closed, error_of, full, no_request, opened, opens, refused, taken, to_no_request, to_request, wants_memory, Reply, reply_text, Session, Sessions, session_of, with_session, sessions_without}
 use Rattle.note_texts.specs.declared.refusals.Refusal.{Refusal}
 use Rattle.note_texts.specs.declared.refusals.Refusal.TheVariants.{Note}
 use Rattle.session_server.specs.Standing.{IsBegun, IsRefusal, IsSession}
-use Rattle.session_server.specs.Open.{AreOpen, HasNone, IsPlaceOf, LosesOne, RepliesTo}
+use Rattle.session_server.specs.Open.{AreOpen, HasNone, IsFirstPlaceOf, LosesOne, RepliesTo}
 
 pub same_length : (k : Known) (cs : List Opened) (all : Sessions) → AreOpen k cs all → length cs ≡ length all
 same_length k [] [] o = refl
@@ -51,14 +51,14 @@ none_more cs k c id none within is other =
     by (d ∷ ds) zero before small at = (λ same. other (ap (λ (x : Opened). x.id) at ∙ same), tt)
     by (d ∷ ds) (suc n) before small at = (before.0, by ds n before.1 (omega (arith, small)) at)
 
-pub filtered : (k : Known) (cs : List Opened) (all : Sessions) (id : ℕ) → AreOpen k cs all → AreOpen k (filter (λ c. not (c.id == id)) cs) (without id all)
+pub filtered : (k : Known) (cs : List Opened) (all : Sessions) (id : ℕ) → AreOpen k cs all → AreOpen k (filter (λ c. not (c.id == id)) cs) (sessions_without id all)
 filtered k [] [] id o = tt
 filtered k [] (s ∷ all) id o = absurd o
 filtered k (c ∷ cs) [] id o = absurd o
 filtered k (c ∷ cs) (s ∷ all) id o = both (not (c.id == id)) (not (s.0 == id)) (ap (λ (n : ℕ). not (n == id)) o.0) (filtered k cs all id o.2)
   where
-    both : (b d : Bool) → b ≡ d → AreOpen k (filter (λ c. not (c.id == id)) cs) (without id all) →
-        AreOpen k (if b then c ∷ filter (λ c. not (c.id == id)) cs else filter (λ c. not (c.id == id)) cs) (if d then s ∷ without id all else without id all)
+    both : (b d : Bool) → b ≡ d → AreOpen k (filter (λ c. not (c.id == id)) cs) (sessions_without id all) →
+        AreOpen k (if b then c ∷ filter (λ c. not (c.id == id)) cs else filter (λ c. not (c.id == id)) cs) (if d then s ∷ sessions_without id all else sessions_without id all)
     both true true e rest = (o.0, o.1, rest)
     both false false e rest = rest
     both true false e rest = absurd (cc)
@@ -71,11 +71,11 @@ pub none_where : (r : Option ℕ) (P : Type 0) → is_none r ≡ true → IfNone
 none_where None P e h = h
 none_where (Some n) P e h = absurd (cc)
 
-pub place_where : (cs : List Opened) (id : ℕ) (r : Option ℕ) → is_none r ≡ false → IfSome r (IsPlaceOf cs id) → (p : ℕ) × IsPlaceOf cs id p
+pub place_where : (cs : List Opened) (id : ℕ) (r : Option ℕ) → is_none r ≡ false → IfSome r (IsFirstPlaceOf cs id) → (p : ℕ) × IsFirstPlaceOf cs id p
 place_where cs id None e h = absurd (cc)
 place_where cs id (Some p) e h = (p, h)
 
-pub some_where : (cs : List Opened) (id : ℕ) (r : Option ℕ) → is_some r ≡ true → IfSome r (IsPlaceOf cs id) → (p : ℕ) × IsPlaceOf cs id p
+pub some_where : (cs : List Opened) (id : ℕ) (r : Option ℕ) → is_some r ≡ true → IfSome r (IsFirstPlaceOf cs id) → (p : ℕ) × IsFirstPlaceOf cs id p
 some_where cs id None e h = absurd (cc)
 some_where cs id (Some p) e h = (p, h)
 
@@ -106,11 +106,11 @@ pub replies_same : {E : Type 0} (k : Known) (r : Result (Vec ℕ Global) E) (cs 
 replies_same k (Ok s) cs request reply f is = λ all o. (reply, all, f all o, is, o)
 replies_same k (Err e) cs request reply f is = tt
 
-pub replies_closed : {E : Type 0} (k : Known) (r : Result (Vec ℕ Global) E) (cs new : List Opened) (id p : ℕ) → IsPlaceOf cs id p → new ≡ filter (λ c. not (c.id == id)) cs →
+pub replies_closed : {E : Type 0} (k : Known) (r : Result (Vec ℕ Global) E) (cs new : List Opened) (id p : ℕ) → IsFirstPlaceOf cs id p → new ≡ filter (λ c. not (c.id == id)) cs →
     IfOk r (λ s. s.items ≡ reply_text (closed id)) → IfOk r (RepliesTo k cs new (close_request id))
 replies_closed k (Ok s) cs new id p at is text = λ all o.
     let (c, t, there, found, stands) = found_open k cs all id p o at.none_before at.here in
-    (closed id, without id all, closes t found, text, subst (λ (xs : List Opened). AreOpen k xs (without id all)) (sym is) (filtered k cs all id o))
+    (closed id, sessions_without id all, closes t found, text, subst (λ (xs : List Opened). AreOpen k xs (sessions_without id all)) (sym is) (filtered k cs all id o))
 replies_closed k (Err e) cs new id p at is text = tt
 
 filter_twice : (f : Opened → Bool) (cs : List Opened) → filter f (filter f cs) ≡ filter f cs
@@ -123,12 +123,12 @@ filter_twice f (c ∷ cs) = by (f c) refl (filter_twice f cs)
 
 pub loses_filtered : (k : Known) (cs new : List Opened) (id : ℕ) → new ≡ filter (λ c. not (c.id == id)) cs → LosesOne k cs new id
 loses_filtered k cs new id is = λ all o.
-    subst (λ (xs : List Opened). AreOpen k xs (without id all)) (sym (ap (filter (λ c. not (c.id == id))) is ∙ filter_twice (λ c. not (c.id == id)) cs)) (filtered k cs all id o)
+    subst (λ (xs : List Opened). AreOpen k xs (sessions_without id all)) (sym (ap (filter (λ c. not (c.id == id))) is ∙ filter_twice (λ c. not (c.id == id)) cs)) (filtered k cs all id o)
 
 -- ---- a session is opened
 
 -- one of this number is open
-pub is_taken : (k : Known) (cs : List Opened) (all : Sessions) (id p : ℕ) (text document : List ℕ) → IsPlaceOf cs id p → AreOpen k cs all →
+pub is_taken : (k : Known) (cs : List Opened) (all : Sessions) (id p : ℕ) (text document : List ℕ) → IsFirstPlaceOf cs id p → AreOpen k cs all →
     Answers k all (open_request id text document) (error_of id (codes "taken")) all
 is_taken k cs all id p text document at o = let (c, s, is, found, stands) = found_open k cs all id p o at.none_before at.here in taken s found
 
@@ -190,10 +190,10 @@ line_of_memory k old mid new text request id (Ok s) is same loses closed_now tol
     let n = session_id request in
     let now : new ≡ filter (λ c. not (c.id == n)) mid = closed_now ∙ ap (λ (m : ℕ). filter (λ (c : Opened). not (c.id == m)) mid) same in (
       error_of n (codes "memory"),
-      without n all,
+      sessions_without n all,
       to_request is wants_memory,
       told ∙ ap (λ (m : ℕ). reply_text (error_of m (codes "memory"))) same,
-      subst (λ (xs : List Opened). AreOpen k xs (without n all)) (sym now) (loses all o),
+      subst (λ (xs : List Opened). AreOpen k xs (sessions_without n all)) (sym now) (loses all o),
     )
 
 -- the line's value is this request, or none

@@ -57,8 +57,8 @@ session_of [] n = None
 session_of (s ∷ all) n = if s.0 == n then Some s.1 else session_of all n
 
 -- the others
-abbrev pub without : ℕ → Sessions → Sessions
-without n all = filter (λ s. not (s.0 == n)) all
+abbrev pub sessions_without : ℕ → Sessions → Sessions
+sessions_without n all = filter (λ s. not (s.0 == n)) all
 
 -- with this one besides
 abbrev pub with_session : ℕ → Session → Sessions → Sessions
@@ -166,18 +166,18 @@ pub data Answers (k : Known) (all : Sessions) : SessionRequest → Reply → Ses
       (given_rows n (nat_lt most (length (to_come k s names rows))) names (take most (to_come k s names rows)))
       (changed n (giving (length (take most (to_come k s names rows))) (asking s)) all)
   heavy_next : {n most : ℕ} (s : Session) → session_of all n ≡ Some s → s.grown ≡ true → IsHeavy s.query.query s.document (length s.document ∷ s.asked) →
-      Answers k all (next_request n most) (error_of n (table_note SESSION_TABLE)) (without n all)
+      Answers k all (next_request n most) (error_of n (table_note SESSION_TABLE)) (sessions_without n all)
   grows : {n : ℕ} {text : List ℕ} (s : Session) → session_of all n ≡ Some s → length s.document + length text ≤ MOST_GROWN →
       Answers k all (grow_request n text) (grown_to n (length s.document + length text)) (changed n (growing text s) all)
   long : {n : ℕ} {text : List ℕ} (s : Session) → session_of all n ≡ Some s → MOST_GROWN < length s.document + length text →
       Answers k all (grow_request n text) (error_of n (codes "long")) all
   heavy_grown : {n : ℕ} {text : List ℕ} (s : Session) → session_of all n ≡ Some s → length s.document + length text ≤ MOST_GROWN →
-      IsHeavy s.query.query (s.document ++ text) s.asked → Answers k all (grow_request n text) (error_of n (table_note SESSION_TABLE)) (without n all)
-  closes : {n : ℕ} (s : Session) → session_of all n ≡ Some s → Answers k all (close_request n) (closed n) (without n all)
+      IsHeavy s.query.query (s.document ++ text) s.asked → Answers k all (grow_request n text) (error_of n (table_note SESSION_TABLE)) (sessions_without n all)
+  closes : {n : ℕ} (s : Session) → session_of all n ≡ Some s → Answers k all (close_request n) (closed n) (sessions_without n all)
   next_of_none : {n most : ℕ} → session_of all n ≡ None → Answers k all (next_request n most) (error_of n (codes "not open")) all
   grow_of_none : {n : ℕ} {text : List ℕ} → session_of all n ≡ None → Answers k all (grow_request n text) (error_of n (codes "not open")) all
   close_of_none : {n : ℕ} → session_of all n ≡ None → Answers k all (close_request n) (error_of n (codes "not open")) all
-  wants_memory : {r : SessionRequest} → Answers k all r (error_of (session_id r) (codes "memory")) (without (session_id r) all)
+  wants_memory : {r : SessionRequest} → Answers k all r (error_of (session_id r) (codes "memory")) (sessions_without (session_id r) all)
 
 -- the reply to a line
 pub data IsReply (k : Known) (all : Sessions) (text : List ℕ) : Reply → Sessions → Type 0 where

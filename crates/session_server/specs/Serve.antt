@@ -6,7 +6,7 @@ use Rattle.rm_outside.specs.declared.status.Status.{Status}
 use Rattle.rm_outside.specs.declared.status.Status.TheVariants as status
 use Rattle.spanner_model.specs.Passing.{Known}
 use Rattle.session_server.specs.declared.TheConstants.{MOST_LINE_BYTES}
-use Rattle.note_texts.specs.Notes.{counted, line}
+use Rattle.note_texts.specs.Notes.{number_between, line}
 use Rattle.note_texts.specs.Outcomes.{Is, IsOutOfMemory, Reports}
 use Rattle.session_server.specs.Replies.{Reply, Sessions, AreReplies, replies_text}
 
@@ -26,7 +26,7 @@ pub data ServesLines (k : Known) (most : ℕ) (source out : Change) (end : Statu
       ServesLines k most source out end note
   line_too_long : (texts : List (List ℕ)) (replies : List Reply) (now : Option (List ℕ)) → TakesLines source.old.bytes texts now →
       IsNextLong MOST_LINE_BYTES now → length texts ≤ most → Served k texts replies → Adds out (replies_text replies) →
-      Is end note status.Long (counted (codes "request longer than ") MOST_LINE_BYTES (codes " bytes")) → ServesLines k most source out end note
+      Is end note status.Long (number_between (codes "request longer than ") MOST_LINE_BYTES (codes " bytes")) → ServesLines k most source out end note
   too_many : (texts : List (List ℕ)) (replies : List Reply) (now : Option (List ℕ)) (next : List ℕ) → TakesLines source.old.bytes texts now → TakesLine now next source.new.bytes →
       length texts ≡ most → Served k texts replies → Adds out (replies_text replies) → Is end note status.Long (codes "too many requests") →
       ServesLines k most source out end note

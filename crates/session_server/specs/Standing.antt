@@ -35,7 +35,7 @@ pub record IsReadOn (q : QueryTree) (document asked : List ℕ) (names : List Va
   pub held : IsAskedAt g asked
 
 -- the code has the query, the document and what is held of reading it
-pub record IsKept (k : Known) (c : CodeSession) (s : Session) : Type 0 where
+pub record IsKeptSession (k : Known) (c : CodeSession) (s : Session) : Type 0 where
   pub query : tested_of c.tested ≡ s.query
   pub growing : IsReadOn s.query.query s.document s.asked c.vars c.growing
   pub few : length s.document ≤ 2 ^ 28
@@ -49,7 +49,7 @@ next_row c = if c.some then Some c.answers.row else None
 
 -- the rows that the code has still to give are those to come, where these are all answers
 pub record IsSessionOver (k : Known) (c : CodeSession) (s : Session) (all : List SpanRow) : Type 0 where
-  pub kept : IsKept k c s
+  pub kept : IsKeptSession k c s
   pub ready : c.grown ≡ false
   pub same : s.grown ≡ false
   pub answers : AreAnswers s.query.query s.document c.vars all
@@ -59,7 +59,7 @@ pub record IsSessionOver (k : Known) (c : CodeSession) (s : Session) (all : List
 
 -- its document has grown, and its rows are not asked for yet
 pub record IsWaiting (k : Known) (c : CodeSession) (s : Session) : Type 0 where
-  pub kept : IsKept k c s
+  pub kept : IsKeptSession k c s
   pub waits : c.grown ≡ true
   pub grew : s.grown ≡ true
   pub anew : s.given ≡ 0

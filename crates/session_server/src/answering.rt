@@ -7,7 +7,7 @@ ghost use Rattle.session_server.specs.declared.TheConstants.{SESSION_TABLE};
 ghost use Rattle.session_server.specs.Asked.{request_of};
 ghost use Rattle.session_server.specs.Requests.{close_request, grow_request, next_request, open_request, session_id as id_of};
 ghost use Rattle.session_server.specs.Replies.{IsReply, Reply, Sessions, error_of as error_reply, opened as opened_reply, reply_text};
-ghost use Rattle.session_server.specs.Open.{AreOpen, HasNone, IsPlaceOf, LosesOne, RepliesTo};
+ghost use Rattle.session_server.specs.Open.{AreOpen, HasNone, IsFirstPlaceOf, LosesOne, RepliesTo};
 
 use crate::MOST_SESSIONS;
 use crate::replies::{closed, error_of, given, grown, no_request, opened};
@@ -234,7 +234,7 @@ fn answer_close(alloc: Global, sessions: &mut Vec<Opened>, id: u32) -> Result<Ve
 
 /// The place of the session of this number, where it is open.
 fn place_of(sessions: &[Opened], id: u32) -> Option<usize>
-    ensures some { IfSome result (IsPlaceOf sessions.now id) }
+    ensures some { IfSome result (IsFirstPlaceOf sessions.now id) }
     ensures none { IfNone result (HasNone sessions.now id) }
 {
     let mut k = 0;

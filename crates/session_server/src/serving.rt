@@ -1,6 +1,6 @@
 //! Serving: a line with a reply for each line with a request.
 ghost use Rattle.std.specs.Prelude.{◌≡◌, ◌⊎◌, codes};
-ghost use Rattle.note_texts.specs.Notes.{counted, note_bytes};
+ghost use Rattle.note_texts.specs.Notes.{number_between, note_bytes};
 ghost use Rattle.note_texts.specs.Outcomes.{Is, IsOutOfMemory};
 ghost use Rattle.rm_outside.specs.Change.{change};
 ghost use Rattle.spanner_model.specs.Passing.{known};
@@ -85,7 +85,7 @@ fn serve_lines<R: Source, O: Sink, J: Judge, L: Ledger>(
 
 /// A request is longer than any that is answered.
 fn too_long(alloc: Global) -> Outcome
-    ensures { Is result.status (note_bytes result.note) Status.Long (counted (codes "request longer than ") MOST_LINE_BYTES (codes " bytes")) ⊎ IsOutOfMemory result.status (note_bytes result.note) }
+    ensures { Is result.status (note_bytes result.note) Status.Long (number_between (codes "request longer than ") MOST_LINE_BYTES (codes " bytes")) ⊎ IsOutOfMemory result.status (note_bytes result.note) }
 {
     let most = MOST_LINE_BYTES as u64;
     Outcome::with(alloc, Status::Long, &Note::RequestTooLong { most })

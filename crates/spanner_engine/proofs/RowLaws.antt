@@ -16,7 +16,7 @@ use Rattle.spanner_model.proofs.Ends.{EndsBy, query_ends}
 use Rattle.marked_automaton.specs.Automaton.{Marked}
 use Rattle.place_automaton.specs.Words.{IsWordOf}
 use Rattle.enumerator.specs.Enumeration.{AreInBlockOrder, AreRowsOf, IsWordOfRow, SpanRow}
-use Rattle.one_pass.specs.Places.{AreReadWords, word_of}
+use Rattle.one_pass.specs.Places.{AreReadWords, word_through}
 use Rattle.one_pass.specs.Words.{Word}
 use Rattle.automaton_reading.proofs.Determined.{reading_law}
 use Rattle.place_automaton.specs.Atom.{AreBytes}
@@ -43,7 +43,7 @@ none_past v k n at (x ∷ names) m ends past =
 module _ (q : QueryTree) (A : Marked) (d : List ℕ) where
   -- the word of an answer lists the blocks of its row
   lists_blocks : (m : Mapping) (w : ℕ → ℕ) → IsAnswer q d m → IsWordOf (row_of A.names m) d w → (at : ℕ) →
-      block (row_of A.names m) at ≡ listed (word_of w (length d)) at
+      block (row_of A.names m) at ≡ listed (word_through w (length d)) at
   lists_blocks m w answer is at = elim (cases_lt (length d) at) [
     | inl past ↦ none_past (length (row_of A.names m)) 0 (length d) at A.names m (query_ends q d m answer) past ∙ sym (word_ends w 0 (length d) at (omega (arith, past)))
     | inr within ↦ sym (is at within) ∙ sym (word_lists w 0 (length d) at (omega arith) (omega (arith, within)))
@@ -51,7 +51,7 @@ module _ (q : QueryTree) (A : Marked) (d : List ℕ) where
 
   -- so that it is the word of that row
   pub is_row : (m : Mapping) (w : ℕ → ℕ) → IsAnswer q d m → IsWordOf (row_of A.names m) d w →
-      IsRowOfBlocks (length A.names) (word_of w (length d)) (row_of A.names m)
+      IsRowOfBlocks (length A.names) (word_through w (length d)) (row_of A.names m)
   is_row m w answer is = record {
     variables = length-map A.names m;
     blocks_are = lists_blocks m w answer is;
@@ -59,7 +59,7 @@ module _ (q : QueryTree) (A : Marked) (d : List ℕ) where
 
   -- and of no other
   one_row : (m : Mapping) (w : ℕ → ℕ) (row : SpanRow) → IsAnswer q d m → IsWordOf (row_of A.names m) d w →
-      IsRowOfBlocks (length A.names) (word_of w (length d)) row → row ≡ row_of A.names m
+      IsRowOfBlocks (length A.names) (word_through w (length d)) row → row ≡ row_of A.names m
   one_row m w row answer is of_word =
       same_rows row (row_of A.names m) (of_word.variables ∙ sym (length-map A.names m)) (λ i. of_word.blocks_are i ∙ sym (lists_blocks m w answer is i))
 
@@ -70,7 +70,7 @@ module _ (q : QueryTree) (A : Marked) (d : List ℕ) where
       answer : IsAnswer q d m
       w : ℕ → ℕ
       word : IsWordOf (row_of A.names m) d w
-      is : word_of w (length d) ≡ u
+      is : word_through w (length d) ≡ u
 
     of_answer : (u : Word) → Has words u → IsOfAnswer u
     of_answer u h =
@@ -109,8 +109,8 @@ module _ (q : QueryTree) (A : Marked) (d : List ℕ) where
     all_there rows are row answer =
         let w : ℕ → ℕ = block (row_of A.names answer.0) in
         let word : IsWordOf (row_of A.names answer.0) d w = λ p le. refl in
-        let there : Has words (word_of w (length d)) = (read (word_of w (length d))).1 (w, (reads w).1 (answer.0, answer.1, word), refl) in
-        let g = word_row words rows are (word_of w (length d)) there in
+        let there : Has words (word_through w (length d)) = (read (word_through w (length d))).1 (w, (reads w).1 (answer.0, answer.1, word), refl) in
+        let g = word_row words rows are (word_through w (length d)) there in
         subst (Has rows) (one_row answer.0 w g.0 answer.1 word g.2 ∙ sym answer.2) g.1
 
     pub answers : (rows : List SpanRow) → AreRowsOf (length A.names) words rows → IsInOrder StandsBefore rows → AreAnswers q d A.names rows

@@ -4,7 +4,7 @@ use Rattle.std.specs.Prelude.{if◌then◌else◌, nat_eq}
 use Rattle.std.proofs.lemmas.List.{append-nil}
 use Rattle.std.proofs.lemmas.Bool.{cases_lt, cases_eq, eqb-false, eqb-true}
 use Rattle.span_core.specs.Blocks.{IsBlockList, listed}
-use Rattle.one_pass.specs.Places.{word_from, word_of}
+use Rattle.one_pass.specs.Places.{word_from, word_through}
 use Rattle.one_pass.specs.Words.{Word}
 use Rattle.output_graph.specs.Forward.{mark_block}
 use Rattle.enumerator.proofs.Words.{AreSome, AscendsFrom, listed_before}
@@ -105,5 +105,5 @@ block_list_of n w up some = (
   λ k d l. some_of k w d some l,
 )
 
-pub word_is_block_list : (w : ℕ → ℕ) (n : ℕ) → IsBlockList (word_of w n)
-word_is_block_list w n = block_list_of 0 (word_of w n) (word_ascends w 0 n) (word_some w 0 n)
+pub word_is_block_list : (w : ℕ → ℕ) (n : ℕ) → IsBlockList (word_through w n)
+word_is_block_list w n = block_list_of 0 (word_through w n) (word_ascends w 0 n) (word_some w 0 n)

@@ -15,7 +15,7 @@ use Rattle.place_automaton.specs.Words.{IsWordOf}
 use Rattle.query_automaton.specs.CompiledQuery.{IsCompiled}
 use Rattle.enumerator.specs.Enumeration.{AreInBlockOrder, AreRowsOf, IsRestAfter, IsWordOfRow, SpanRow}
 use Rattle.one_pass.specs.Builds.{build}
-use Rattle.one_pass.specs.Places.{AreReadWords, word_of}
+use Rattle.one_pass.specs.Places.{AreReadWords, word_through}
 use Rattle.one_pass.specs.Words.{Word}
 use Rattle.spanner_engine.specs.Begun.{AreRead}
 
@@ -55,7 +55,7 @@ ReductCosts = (A : Marked) (B : Automaton) → IsMarked A → Reduces A.graph B 
 abbrev pub CompiledAcceptsRows : Type 0
 CompiledAcceptsRows =
     (q : QueryTree) (A : Marked) → IsCompiled q A → (d : List ℕ) → AreBytes d → (w : ℕ → ℕ) →
-    Accepts A.graph d w → IsWordOfRow (length A.names) (word_of w (length d))
+    Accepts A.graph d w → IsWordOfRow (length A.names) (word_through w (length d))
 
 -- the rows of the words with which it reads a whole document, in block order, are the answers
 abbrev pub WholeRowsAreAnswers : Type 0

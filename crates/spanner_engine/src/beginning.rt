@@ -14,7 +14,6 @@ ghost use Rattle.spanner_engine.specs.Left.{AreLeft};
 ghost use Rattle.spanner_engine.specs.declared.beginning.BeginFault.TheVariants.{CursorOther, CursorPlace};
 
 use crate::Answers;
-use crate::building::all_answers;
 use crate::cache::Cache;
 use crate::place::{is_past, other_length};
 use crate::positions::positions_read;
@@ -174,6 +173,7 @@ pub fn begin_with<L: Ledger>(
         steps.new ≤ steps.old + rebuild cache.old.kept (counted (query_of query.now)) doc.now K
         + begin_steps options.filter (query_of query.now) doc.now K (row_kept (option_copied after.entry)) }
 {
+    automaton.is_marked();
     let found = doc.len() as u32;
     if let Some(kept) = other_length(after, found) {
         return Err(BeginFault::CursorOther { kept, found });
@@ -186,19 +186,12 @@ pub fn begin_with<L: Ledger>(
         Err(FilterFault::Full { weight }) => return Err(BeginFault::Filter { weight }),
         Err(FilterFault::OutOfMemory) => return Err(BeginFault::OutOfMemory),
     };
-    let rows = match all_answers(
-        cache,
-        query,
-        automaton,
-        doc,
-        positions,
-        options.limit,
-        steps,
-    ) {
-        Ok(rows) => rows,
+    let lists = match cache.lists(automaton, doc, &positions, options.limit, steps) {
+        Ok(lists) => lists,
         Err(TableFault::Full { weight }) => return Err(BeginFault::Table { weight }),
         Err(TableFault::OutOfMemory) => return Err(BeginFault::OutOfMemory),
     };
+    let rows = Enumerator::new(lists, automaton.vars().len());
     Ok(Answers::over(from_row(rows, after, steps)))
 }
 

@@ -3,13 +3,13 @@
 //! A table keeps what it answered, which the automaton alone determines; so it serves each document, and only its weight
 //! grows. A document that is refused over a kept table is read once more over a new one, so that a refusal is that of the
 //! document alone.
-ghost use Rattle.std.specs.Prelude.{◌≡◌, ℕ, ◌+◌, ◌^◌, ◌≤◌, length, IfErr, IfOk, None, OnErr, OnOk, Some, true};
+ghost use Rattle.std.specs.Prelude.{◌≡◌, ℕ, ◌+◌, ◌^◌, ◌≤◌, length, IfErr, IfOk, None, OnOk, Some, true};
 ghost use Rattle.std.specs.Option.{IfSome};
 ghost use Rattle.span_core.specs.Intervals.{Covers};
 ghost use Rattle.marked_automaton.specs.Automaton.{Automaton as Graph};
 ghost use Rattle.automaton_reading.specs.Reading.{edges_K};
 ghost use Rattle.output_graph.specs.Rows.{rows};
-ghost use Rattle.one_pass.specs.Builds.{IsNew, build};
+ghost use Rattle.one_pass.specs.Builds.{build};
 ghost use Rattle.one_pass.specs.Faults.{IsReadFault};
 ghost use Rattle.one_pass.specs.Places.{AreReadWords, is_touched};
 ghost use Rattle.one_pass.specs.Weights.{WeighsWithin};
@@ -76,100 +76,55 @@ impl Cache {
         Some(kept)
     }
 
-    /// Keeps a table with what is known of its layers, if it is light enough and there is room for more.
-    fn keep(&mut self, table: KnownTable<'_>)
+    /// Keeps the table that a document was read by, with what is known of its layers, if it is light enough and there is room for
+    /// more. Gives the lists of the document's words.
+    fn keep(&mut self, listed: Listed<'_>) -> RowLists
         requires empty { self.old.kept ≡ None }
-        ensures { IsCacheOf table.entry.graph self.new }
+        ensures cache { IsCacheOf listed.table.graph self.new }
+        ensures lists { result ≡ listed.lists }
     {
+        let Listed { lists, table } = listed;
         if table.may_grow(self.most) {
             self.kept = Some(table.lay_down());
         }
+        lists
     }
-}
 
-/// The lists of the words with which a document is read at some positions: by the table that is kept, if it is of this limit. If
-/// none is kept, or the document is refused over it, it is read by a new one.
-pub(crate) fn lists_over<L: Ledger>(
-    cache: &mut Cache,
-    automaton: &Automaton,
-    doc: &[u8],
-    positions: &Touched,
-    limit: u64,
-    steps: &mut Steps<L>,
-) -> Result<RowLists, TableFault>
-    requires cache { IsCacheOf automaton.now.graph cache.old }
-    requires few { length doc.now ≤ 2 ^ 28 }
-    requires limit { limit ≤ 100000000 }
-    requires within { (q : ℕ) → Covers positions.now q → q ≤ length doc.now }
-    ensures cache { IsCacheOf automaton.now.graph cache.new }
-    ensures words { IfOk result (λ lists. AreReadWords automaton.now.graph (is_touched positions.now) doc.now (rows lists.store lists.first)) }
-    ensures cells { IfOk result (λ lists. length lists.store ≤ edges_K automaton.now.graph doc.now (is_touched positions.now) + 1) }
-    ensures weighs { OnOk result (WeighsWithin automaton.now.graph doc.now (is_touched positions.now) limit) }
-    ensures cause { IfErr result (IsReadFault automaton.now.graph (is_touched positions.now) doc.now limit) }
-    ensures steps { steps.new ≤ steps.old + rebuild cache.old.kept automaton.now.graph doc.now (is_touched positions.now)
-        + build automaton.now.graph doc.now (is_touched positions.now) }
-{
-    let Some(kept) = cache.take(limit) else {
-        return lists_anew(cache, automaton, doc, positions, limit, steps);
-    };
-    let table = KnownTable::take_up(automaton, kept);
-    if let Ok(lists) = lists_by(cache, table, doc, positions, steps) {
-        return Ok(lists);
+    /// The lists of the words with which a document is read at some positions: by the table that is kept, if it is of this limit. If
+    /// none is kept, or the document is refused over it, it is read by a new one.
+    pub(crate) fn lists<L: Ledger>(
+        &mut self,
+        automaton: &Automaton,
+        doc: &[u8],
+        positions: &Touched,
+        limit: u64,
+        steps: &mut Steps<L>,
+    ) -> Result<RowLists, TableFault>
+        requires cache { IsCacheOf automaton.now.graph self.old }
+        requires few { length doc.now ≤ 2 ^ 28 }
+        requires limit { limit ≤ 100000000 }
+        requires within { (q : ℕ) → Covers positions.now q → q ≤ length doc.now }
+        ensures cache { IsCacheOf automaton.now.graph self.new }
+        ensures words { IfOk result (λ lists. AreReadWords automaton.now.graph (is_touched positions.now) doc.now (rows lists.store lists.first)) }
+        ensures cells { IfOk result (λ lists. length lists.store ≤ edges_K automaton.now.graph doc.now (is_touched positions.now) + 1) }
+        ensures weighs { OnOk result (WeighsWithin automaton.now.graph doc.now (is_touched positions.now) limit) }
+        ensures cause { IfErr result (IsReadFault automaton.now.graph (is_touched positions.now) doc.now limit) }
+        ensures steps { steps.new ≤ steps.old + rebuild self.old.kept automaton.now.graph doc.now (is_touched positions.now)
+            + build automaton.now.graph doc.now (is_touched positions.now) }
+    {
+        if let Some(kept) = self.take(limit) {
+            let table = KnownTable::take_up(automaton, kept);
+            if let Ok(listed) = table.list(self.alloc, doc, positions, steps) {
+                return Ok(self.keep(listed));
+            }
+        }
+        let table = match KnownTable::new(self.alloc, automaton, limit, steps) {
+            Ok(table) => table,
+            Err(fault) => return Err(fault),
+        };
+        match table.list(self.alloc, doc, positions, steps) {
+            Ok(listed) => Ok(self.keep(listed)),
+            Err(fault) => Err(fault),
+        }
     }
-    lists_anew(cache, automaton, doc, positions, limit, steps)
-}
-
-/// The same by a new table.
-fn lists_anew<L: Ledger>(
-    cache: &mut Cache,
-    automaton: &Automaton,
-    doc: &[u8],
-    positions: &Touched,
-    limit: u64,
-    steps: &mut Steps<L>,
-) -> Result<RowLists, TableFault>
-    requires empty { cache.old.kept ≡ None }
-    requires few { length doc.now ≤ 2 ^ 28 }
-    requires limit { limit ≤ 100000000 }
-    requires within { (q : ℕ) → Covers positions.now q → q ≤ length doc.now }
-    ensures cache { IsCacheOf automaton.now.graph cache.new }
-    ensures words { IfOk result (λ lists. AreReadWords automaton.now.graph (is_touched positions.now) doc.now (rows lists.store lists.first)) }
-    ensures cells { IfOk result (λ lists. length lists.store ≤ edges_K automaton.now.graph doc.now (is_touched positions.now) + 1) }
-    ensures weighs { OnOk result (WeighsWithin automaton.now.graph doc.now (is_touched positions.now) limit) }
-    ensures cause { IfErr result (IsReadFault automaton.now.graph (is_touched positions.now) doc.now limit) }
-    ensures steps { steps.new ≤ steps.old + build automaton.now.graph doc.now (is_touched positions.now) }
-{
-    let table = match KnownTable::new(cache.alloc, automaton, limit, steps) {
-        Ok(table) => table,
-        Err(fault) => return Err(fault),
-    };
-    lists_by(cache, table, doc, positions, steps)
-}
-
-/// The same by this table, which is kept with what is known then. If it is refused, nothing is kept.
-fn lists_by<L: Ledger>(
-    cache: &mut Cache,
-    table: KnownTable<'_>,
-    doc: &[u8],
-    positions: &Touched,
-    steps: &mut Steps<L>,
-) -> Result<RowLists, TableFault>
-    requires empty { cache.old.kept ≡ None }
-    requires few { length doc.now ≤ 2 ^ 28 }
-    requires within { (q : ℕ) → Covers positions.now q → q ≤ length doc.now }
-    ensures cache { OnOk result (IsCacheOf table.entry.graph cache.new) }
-    ensures empty { OnErr result (cache.new.kept ≡ None) }
-    ensures words { IfOk result (λ lists. AreReadWords table.entry.graph (is_touched positions.now) doc.now (rows lists.store lists.first)) }
-    ensures cells { IfOk result (λ lists. length lists.store ≤ edges_K table.entry.graph doc.now (is_touched positions.now) + 1) }
-    ensures weighs { OnOk result (WeighsWithin table.entry.graph doc.now (is_touched positions.now) table.entry.limit) }
-    ensures cause { IfErr result (λ e. IsNew table.entry.graph table.entry → IsReadFault table.entry.graph (is_touched positions.now) doc.now table.entry.limit e) }
-    ensures steps { steps.new + 1 ≤ steps.old + build table.entry.graph doc.now (is_touched positions.now) }
-{
-    let listed = match table.list(cache.alloc, doc, positions, steps) {
-        Ok(listed) => listed,
-        Err(fault) => return Err(fault),
-    };
-    let Listed { lists, table } = listed;
-    cache.keep(table);
-    Ok(lists)
 }

@@ -13,7 +13,6 @@ pub use tested::{advance_tested, next_tested};
 
 mod answers;
 mod beginning;
-mod building;
 mod cache;
 mod differences;
 pub mod laws;

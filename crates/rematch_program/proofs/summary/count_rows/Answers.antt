@@ -3,7 +3,7 @@ use Rattle.std.specs.Prelude.{slice_get}
 use Rattle.spanner_model.specs.Answers.{SpanRow, page_end}
 use Rattle.spanner_engine.specs.Left.{checks_over, passing_over}
 use Rattle.spanner_model.specs.Passing.{known}
-use Rattle.rematch_program.specs.Trials.{last_of}
+use Rattle.rematch_program.specs.Trials.{later_row}
 use Rattle.rematch_program.specs.Taking.{coming}
 use Rattle.rematch_program.proofs.Inside.{fits_of}
 use Rattle.rematch_program.proofs.PageSteps.{ends_on, fits_page, goes_on, goes_out, took_found, took_none}
@@ -46,7 +46,7 @@ loop-row-preserved g c =
           c.saturating_add-count.ensures (ap length next) inv.rows;
       few = omega (arith, c.saturating_add-count.ensures);
       first = inv.first;
-      last = sym (ap (λ (rows : List SpanRow). page_end rows (last_of (Some c.in-Some.row) c.loop-row.later)) next) ∙ inv.last;
+      last = sym (ap (λ (rows : List SpanRow). page_end rows (later_row (Some c.in-Some.row) c.loop-row.later)) next) ∙ inv.last;
       first_fits = inv.first_fits;
       later_fits = fits_page g.J.Judge.judges s t inv.source [] [] row c.in-Some-next.ensures.fits;
       tried = ends_on c.args.rows.now.rest old new inv.tried c.in-Some-next.ensures.left;

@@ -5,7 +5,7 @@ use Rattle.spanner_engine.specs.Left.{EndsIn, passing_over}
 use Rattle.rematch_program.specs.Pages.{FitsPage}
 use Rattle.rematch_program.specs.Steps.{next_steps}
 use Rattle.rematch_program.specs.Taking.{coming}
-use Rattle.rematch_program.specs.Trials.{last_of}
+use Rattle.rematch_program.specs.Trials.{later_row}
 use Rattle.rematch_program.proofs.summary.count_rows.Given as goal
 
 abbrev pub invariant-loop-row : goal.invariant-loop-row
@@ -14,7 +14,7 @@ invariant-loop-row g l = record {
   rows : min (l.count + length (passing_over g.J.Judge.judges l.fn.rows.source l.rows.rest)) (2 ^ 64 - 1) ≡ min (length (coming g.J.Judge.judges l.fn.rows)) (2 ^ 64 - 1);
   few : l.count ≤ 2 ^ 64 - 1;
   first : slice_get (coming g.J.Judge.judges l.fn.rows) 0 ≡ Some l.first;
-  last : page_end (passing_over g.J.Judge.judges l.fn.rows.source l.rows.rest) (last_of (Some l.first) l.later) ≡ page_end (coming g.J.Judge.judges l.fn.rows) None;
+  last : page_end (passing_over g.J.Judge.judges l.fn.rows.source l.rows.rest) (later_row (Some l.first) l.later) ≡ page_end (coming g.J.Judge.judges l.fn.rows) None;
   first_fits : FitsPage (length l.fn.rows.source.names) (length l.fn.rows.source.document) l.first;
   later_fits : IfSome l.later (FitsPage (length l.fn.rows.source.names) (length l.fn.rows.source.document));
   tried : EndsIn l.fn.rows.rest l.rows.rest;

@@ -2,7 +2,7 @@ use Rattle.std.proofs.Common.{List, IfOk, codes, sym, subst}
 use Rattle.session_server.specs.declared.answering.Opened.{Opened}
 use Rattle.session_server.specs.Requests.{grow_request}
 use Rattle.session_server.specs.Replies.{error_of, grow_of_none}
-use Rattle.session_server.specs.Open.{HasNone, IsPlaceOf, RepliesTo}
+use Rattle.session_server.specs.Open.{HasNone, IsFirstPlaceOf, RepliesTo}
 use Rattle.session_server.proofs.Opens.{loses_same, none_open, replies_same}
 use Rattle.note_texts.proofs.ResultLaws.{on_err}
 use Rattle.session_server.proofs.NextRows.{grow_heavy, heavy_closed, here_at, loses_closed, loses_set, replies_grown, set_same, too_heavy, too_long}
@@ -23,7 +23,7 @@ returns-in_default-length_with-clause-reply g c =
     let cs = c.args.sessions.now.items in
     let p = c.in-Some.k in
     let x = c.index_mut.result.now in
-    let at : IsPlaceOf cs c.args.id p = subst (λ (xs : List Opened). IsPlaceOf xs c.args.id p) c.deref.ensures.value c.in-Some.ensures.some in
+    let at : IsFirstPlaceOf cs c.args.id p = subst (λ (xs : List Opened). IsFirstPlaceOf xs c.args.id p) c.deref.ensures.value c.in-Some.ensures.some in
     let (there, same) = here_at cs c.args.id p x at c.index_mut.ensures.value in
     let r = c.error_of-in_default-length_with.result in
     λ k. subst (λ (xs : List Opened). IfOk r (RepliesTo k cs xs (grow_request c.args.id c.args.text.now))) (sym (set_same cs p x there))
@@ -34,7 +34,7 @@ returns-in_default-length_with-clause-memory g c =
     let cs = c.args.sessions.now.items in
     let p = c.in-Some.k in
     let x = c.index_mut.result.now in
-    let at : IsPlaceOf cs c.args.id p = subst (λ (xs : List Opened). IsPlaceOf xs c.args.id p) c.deref.ensures.value c.in-Some.ensures.some in
+    let at : IsFirstPlaceOf cs c.args.id p = subst (λ (xs : List Opened). IsFirstPlaceOf xs c.args.id p) c.deref.ensures.value c.in-Some.ensures.some in
     let (there, same) = here_at cs c.args.id p x at c.index_mut.ensures.value in
     λ k. on_err c.error_of-in_default-length_with.result _ (loses_set k cs c.args.id p x at same)
 
@@ -43,7 +43,7 @@ returns-in-Ok-clause-reply g c =
     let cs = c.args.sessions.now.items in
     let p = c.in-Some.k in
     let x = c.index_mut.result.now in
-    let at : IsPlaceOf cs c.args.id p = subst (λ (xs : List Opened). IsPlaceOf xs c.args.id p) c.deref.ensures.value c.in-Some.ensures.some in
+    let at : IsFirstPlaceOf cs c.args.id p = subst (λ (xs : List Opened). IsFirstPlaceOf xs c.args.id p) c.deref.ensures.value c.in-Some.ensures.some in
     let (there, same) = here_at cs c.args.id p x at c.index_mut.ensures.value in
     let long = c.in-Some-length_with.ensures.some in
     λ k. replies_grown k c.grown.result cs c.args.id p c.in-Some-length_with.length c.args.text.now c.as_bytes-text.result.now x c.grow.new.self at there same c.as_bytes-text.ensures.value long.0 long.1 (λ s h. c.in-Ok.ensures.grown k s h) c.grown.ensures
@@ -53,7 +53,7 @@ returns-in-Ok-clause-memory g c =
     let cs = c.args.sessions.now.items in
     let p = c.in-Some.k in
     let x = c.index_mut.result.now in
-    let at : IsPlaceOf cs c.args.id p = subst (λ (xs : List Opened). IsPlaceOf xs c.args.id p) c.deref.ensures.value c.in-Some.ensures.some in
+    let at : IsFirstPlaceOf cs c.args.id p = subst (λ (xs : List Opened). IsFirstPlaceOf xs c.args.id p) c.deref.ensures.value c.in-Some.ensures.some in
     let (there, same) = here_at cs c.args.id p x at c.index_mut.ensures.value in
     λ k. on_err c.grown.result _ (loses_set k cs c.args.id p (record { id = x.id; session = c.grow.new.self }) at same)
 
@@ -62,7 +62,7 @@ returns-in-Err-Heavy-clause-reply g c =
     let cs = c.args.sessions.now.items in
     let p = c.in-Some.k in
     let x = c.index_mut.result.now in
-    let at : IsPlaceOf cs c.args.id p = subst (λ (xs : List Opened). IsPlaceOf xs c.args.id p) c.deref.ensures.value c.in-Some.ensures.some in
+    let at : IsFirstPlaceOf cs c.args.id p = subst (λ (xs : List Opened). IsFirstPlaceOf xs c.args.id p) c.deref.ensures.value c.in-Some.ensures.some in
     let (there, same) = here_at cs c.args.id p x at c.index_mut.ensures.value in
     let long = c.in-Some-length_with.ensures.some in
     let bytes = c.as_bytes-text.result.now in
@@ -75,7 +75,7 @@ returns-in-Err-Heavy-clause-memory g c =
     let cs = c.args.sessions.now.items in
     let p = c.in-Some.k in
     let x = c.index_mut.result.now in
-    let at : IsPlaceOf cs c.args.id p = subst (λ (xs : List Opened). IsPlaceOf xs c.args.id p) c.deref.ensures.value c.in-Some.ensures.some in
+    let at : IsFirstPlaceOf cs c.args.id p = subst (λ (xs : List Opened). IsFirstPlaceOf xs c.args.id p) c.deref.ensures.value c.in-Some.ensures.some in
     let (there, same) = here_at cs c.args.id p x at c.index_mut.ensures.value in
     λ k. on_err c.close_heavy.result _ (loses_closed k cs c.close_heavy.new.sessions.items c.args.id p (record { id = x.id; session = c.grow.new.self }) at same c.close_heavy.ensures.closed)
 
@@ -84,6 +84,6 @@ returns-in-Err-OutOfMemory-clause-memory g c =
     let cs = c.args.sessions.now.items in
     let p = c.in-Some.k in
     let x = c.index_mut.result.now in
-    let at : IsPlaceOf cs c.args.id p = subst (λ (xs : List Opened). IsPlaceOf xs c.args.id p) c.deref.ensures.value c.in-Some.ensures.some in
+    let at : IsFirstPlaceOf cs c.args.id p = subst (λ (xs : List Opened). IsFirstPlaceOf xs c.args.id p) c.deref.ensures.value c.in-Some.ensures.some in
     let (there, same) = here_at cs c.args.id p x at c.index_mut.ensures.value in
     λ k. loses_set k cs c.args.id p (record { id = x.id; session = c.grow.new.self }) at same

@@ -4,7 +4,7 @@ use Rattle.session_server.specs.declared.TheConstants.{MOST_SESSIONS}
 use Rattle.session_server.specs.declared.answering.Opened.{Opened}
 use Rattle.session_server.specs.Requests.{open_request}
 use Rattle.session_server.specs.Replies.{error_of}
-use Rattle.session_server.specs.Open.{HasNone, IsPlaceOf}
+use Rattle.session_server.specs.Open.{HasNone, IsFirstPlaceOf}
 use Rattle.session_server.proofs.Opens.{is_full, is_taken, loses_same, not_some, replies_same, some_where}
 use Rattle.note_texts.proofs.ResultLaws.{on_err}
 use Rattle.session_server.proofs.answering.answer_open.Goals as goal
@@ -14,7 +14,7 @@ returns-then-is_some-clause-reply g c =
     let k = known c.args.tests.now g.J.Judge.judges in
     let cs = c.args.sessions.now.items in
     let (p, there) = some_where c.deref.result.now c.args.id c.place_of.result (search rules) c.place_of.ensures.some in
-    let at : IsPlaceOf cs c.args.id p = subst (λ (xs : List Opened). IsPlaceOf xs c.args.id p) c.deref.ensures.value there in
+    let at : IsFirstPlaceOf cs c.args.id p = subst (λ (xs : List Opened). IsFirstPlaceOf xs c.args.id p) c.deref.ensures.value there in
     replies_same k c.error_of.result cs (open_request c.args.id c.args.query.now c.args.document.now) (error_of c.args.id (codes "taken")) (λ all o. is_taken k cs all c.args.id p c.args.query.now c.args.document.now at o) c.error_of.ensures
 
 pub returns-then-is_some-clause-memory : goal.returns-then-is_some-clause-memory

@@ -1,7 +1,7 @@
 use Rattle.std.proofs.Common.{rules, arith, true, false, ◌≡◌, ◌∙◌, List, ℕ, ◌++◌, codes, inl, inr, refl, sym, ap, subst}
 use Rattle.rm_outside.specs.Change.{change}
 use Rattle.rm_outside.specs.declared.status.Status.TheVariants as status
-use Rattle.note_texts.specs.Notes.{counted, line, note_bytes}
+use Rattle.note_texts.specs.Notes.{number_between, line, note_bytes}
 use Rattle.spanner_model.specs.Passing.{known}
 use Rattle.session_server.specs.declared.TheConstants.{MOST_LINE_BYTES}
 use Rattle.session_server.specs.declared.answering.Opened.{Opened}
@@ -51,7 +51,7 @@ returns-in-Err-TooLong g c =
     let note = note_bytes c.too_long.result.note in
     record {
       serves = elim c.too_long.ensures [
-        | inl is ↦ ended_as k c.args.most source out end status.Long note (line (counted (codes "request longer than ") MOST_LINE_BYTES (codes " bytes"))) is.ends is.says
+        | inl is ↦ ended_as k c.args.most source out end status.Long note (line (number_between (codes "request longer than ") MOST_LINE_BYTES (codes " bytes"))) is.ends is.says
             (ends_long k c.args.most (g.R.Source.told c.args.source.now).bytes (g.R.Source.told c.loop-line.source).bytes (g.O.Sink.told c.args.out.now).bytes (g.O.Sink.told c.loop-line.out).bytes c.loop-line.served c.loop-line.sessions.items so source out refl refl refl long)
         | inr is ↦ ended_as k c.args.most source out end status.Memory note (line (codes "out of memory")) is.ends is.says
             (ends_memory k c.args.most (g.R.Source.told c.args.source.now).bytes (g.R.Source.told c.loop-line.source).bytes (g.O.Sink.told c.args.out.now).bytes (g.O.Sink.told c.loop-line.out).bytes c.loop-line.served c.loop-line.sessions.items so source out refl refl refl)

@@ -1,7 +1,7 @@
 use Rattle.std.proofs.Common.{List, ℕ, length, drop, arith, subst, sym, ap}
 use Rattle.std.proofs.lemmas.List.{length-drop}
 use Rattle.one_pass.specs.declared.pass.Pass.{Pass}
-use Rattle.one_pass.specs.Going.{GivesUp, IsAdvanced, Reads}
+use Rattle.one_pass.specs.Going.{GivesUp, IsAdvanced, PassReads}
 use Rattle.one_pass.specs.Numbered.{as_layer}
 use Rattle.one_pass.specs.Places.{bytes_at}
 use Rattle.one_pass.proofs.Advancing.{advanced_all, advanced_on, advanced_stops}
@@ -64,7 +64,7 @@ pub returns-clause-read : goal.returns-clause-read
 returns-clause-read g c =
     let e = c.name.ensures in
     let p = c.args.self.now in
-    subst (λ (q : Pass). Reads (bytes_at p.at c.args.piece.now) c.args.table.now p c.args.steps.now c.loop-i.table q c.loop-i.steps) (sym (same_pass c.name.new.self (as_layer c.loop-i.layer c.loop-i.self) e.graph e.known e.search e.at))
+    subst (λ (q : Pass). PassReads (bytes_at p.at c.args.piece.now) c.args.table.now p c.args.steps.now c.loop-i.table q c.loop-i.steps) (sym (same_pass c.name.new.self (as_layer c.loop-i.layer c.loop-i.self) e.graph e.known e.search e.at))
     (advanced_all c.loop-i.invariant.advanced (omega (arith, c.loop-i.invariant.within)))
 
 pub returns-clause-at : goal.returns-clause-at

@@ -1,6 +1,6 @@
 use Rattle.std.proofs.Common.{◌≡◌, ◌<◌, Some, length, arith, refl}
 use Rattle.one_pass.specs.declared.search.Search.{Search}
-use Rattle.one_pass.specs.Numbered.{moved}
+use Rattle.one_pass.specs.Numbered.{moved_to}
 use Rattle.one_pass.proofs.Advancing.{advanced_gives_up, advanced_more}
 use Rattle.one_pass.proofs.NumberedLaws.{searched}
 use Rattle.one_pass.proofs.pass.Pass.read_next.Goals as goal
@@ -13,7 +13,7 @@ returns-then-outlook-bytes-clause-read g c =
     let ahead = rw none at c.look_ahead-outlook.ensures.ahead in
     let led = ahead.led p.graph c.args.steps.now c.args.steps.now (refl, refl) in
     let search : Search = record { skipper = p.search.skipper; ahead = p.search.ahead; quiet = outlook.quiet; far = p.search.far; waits = p.search.waits } in
-    let past = searched (Some outlook.layer) (moved p.graph outlook.bytes p) search refl led.advanced in
+    let past = searched (Some outlook.layer) (moved_to p.graph outlook.bytes p) search refl led.advanced in
     record { advanced = past; stands = led.stands; within = c.look_ahead-outlook.ensures.within }
 
 pub read_unknown-requires-clause-goes_on : goal.read_unknown-requires-clause-goes_on
@@ -24,7 +24,7 @@ read_unknown-requires-clause-goes_on g c =
     let ahead = rw none at c.look_ahead-outlook.ensures.ahead in
     let led = ahead.led p.graph c.args.steps.now c.args.steps.now (refl, refl) in
     let search : Search = record { skipper = p.search.skipper; ahead = p.search.ahead; quiet = outlook.quiet; far = p.search.far; waits = p.search.waits } in
-    let past = searched (Some outlook.layer) (moved p.graph outlook.bytes p) search refl led.advanced in
+    let past = searched (Some outlook.layer) (moved_to p.graph outlook.bytes p) search refl led.advanced in
     past.reads.goes_on
 
 pub read_unknown-requires-clause-stands : goal.read_unknown-requires-clause-stands
@@ -35,7 +35,7 @@ read_unknown-requires-clause-stands g c =
     let ahead = rw none at c.look_ahead-outlook.ensures.ahead in
     let led = ahead.led p.graph c.args.steps.now c.args.steps.now (refl, refl) in
     let search : Search = record { skipper = p.search.skipper; ahead = p.search.ahead; quiet = outlook.quiet; far = p.search.far; waits = p.search.waits } in
-    let past = searched (Some outlook.layer) (moved p.graph outlook.bytes p) search refl led.advanced in
+    let past = searched (Some outlook.layer) (moved_to p.graph outlook.bytes p) search refl led.advanced in
     led.stands
 
 pub returns-in-Ok-clause-read : goal.returns-in-Ok-clause-read
@@ -46,7 +46,7 @@ returns-in-Ok-clause-read g c =
     let ahead = rw none at c.look_ahead-outlook.ensures.ahead in
     let led = ahead.led p.graph c.args.steps.now c.args.steps.now (refl, refl) in
     let search : Search = record { skipper = p.search.skipper; ahead = p.search.ahead; quiet = outlook.quiet; far = p.search.far; waits = p.search.waits } in
-    let past = searched (Some outlook.layer) (moved p.graph outlook.bytes p) search refl led.advanced in
+    let past = searched (Some outlook.layer) (moved_to p.graph outlook.bytes p) search refl led.advanced in
     let within : outlook.bytes < length c.args.bytes.now = omega (arith, c.look_ahead-outlook.ensures.within) in
     record { advanced = advanced_more past within c.in-Ok.ensures.read c.in-Ok.ensures.at; stands = c.in-Ok.ensures.stands; within = omega (arith, within) }
 
@@ -58,6 +58,6 @@ returns-in-Err-clause-given_up g c =
     let ahead = rw none at c.look_ahead-outlook.ensures.ahead in
     let led = ahead.led p.graph c.args.steps.now c.args.steps.now (refl, refl) in
     let search : Search = record { skipper = p.search.skipper; ahead = p.search.ahead; quiet = outlook.quiet; far = p.search.far; waits = p.search.waits } in
-    let past = searched (Some outlook.layer) (moved p.graph outlook.bytes p) search refl led.advanced in
+    let past = searched (Some outlook.layer) (moved_to p.graph outlook.bytes p) search refl led.advanced in
     let within : outlook.bytes < length c.args.bytes.now = omega (arith, c.look_ahead-outlook.ensures.within) in
     advanced_gives_up past within c.in-Err.ensures.given_up

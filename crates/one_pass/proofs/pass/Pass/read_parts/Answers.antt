@@ -1,25 +1,19 @@
 use Rattle.std.proofs.Common.{arith}
 use Rattle.std.proofs.lemmas.Result.{IfErr-weaker, on_ok_weaker}
-use Rattle.one_pass.proofs.Parting.{at_end, before_end, gap_gives_up, gap_reads, part_later, part_rising, part_within, up_to_end, up_to_gives_up, up_to_more, up_to_none}
+use Rattle.one_pass.proofs.Parting.{at_end, before_end, gap_gives_up, gap_reads, part_later, part_rising, part_within, up_to_end, part_gives_up, part_reads, skip_gives_up, up_to_more, up_to_none}
 use Rattle.one_pass.proofs.pass.Pass.read_parts.Goals as goal
 
 pub loop-part-init : goal.loop-part-init
 loop-part-init g c = up_to_none c.requires.goes_on c.requires.first c.requires.apart
 
-pub read_part-requires-clause-goes_on : goal.read_part-requires-clause-goes_on
-read_part-requires-clause-goes_on g c = c.loop-part.invariant.reads.goes_on
+pub skip-requires-clause-goes_on : goal.skip-requires-clause-goes_on
+skip-requires-clause-goes_on g c = c.loop-part.invariant.reads.goes_on
 
-pub read_part-requires-clause-later : goal.read_part-requires-clause-later
-read_part-requires-clause-later g c = part_later c.loop-part.invariant c.requires.within (omega arith)
-
-pub read_part-requires-clause-rising : goal.read_part-requires-clause-rising
-read_part-requires-clause-rising g c = part_rising c.loop-part.invariant c.requires.within (omega arith)
-
-pub read_part-requires-clause-within : goal.read_part-requires-clause-within
-read_part-requires-clause-within g c = part_within c.loop-part.invariant c.requires.within (omega arith)
+pub skip-requires-clause-later : goal.skip-requires-clause-later
+skip-requires-clause-later g c = part_later c.loop-part.invariant c.requires.within (omega arith)
 
 pub returns-in-Err-clause-given_up : goal.returns-in-Err-clause-given_up
-returns-in-Err-clause-given_up g c = up_to_gives_up c.loop-part.invariant c.requires.within (omega arith) c.in-Err.ensures.given_up
+returns-in-Err-clause-given_up g c = skip_gives_up c.loop-part.invariant c.requires.within (omega arith) c.in-Err.ensures.given_up
 
 pub overflow_add-next : goal.overflow_add-next
 overflow_add-next g c =
