@@ -3,7 +3,7 @@ use Rattle.std.proofs.Common.{◌≡◌, ℕ, zero, suc, ◌+◌, ◌-◌, ◌<�
 use Rattle.std.proofs.lemmas.List.{get_or-take, length-take-le}
 use Rattle.span_core.specs.Lists.{Has, IsInOrder}
 use Rattle.span_core.proofs.HasLaws.{Has-get_or}
-use Rattle.byte_runs.specs.Inner.{EndsNowhere, Inner, IsTextBehind, StandsAt}
+use Rattle.byte_runs.specs.Inner.{EndsNowhere, Inner, IsBehind, StandsAt}
 use Rattle.marked_automaton.specs.declared.way.Way.{Way}
 use Rattle.marked_automaton.specs.Automaton.{Automaton, HasByte}
 use Rattle.output_graph.specs.Graph.{Graph, Source, sources}
@@ -121,7 +121,7 @@ last_kills ways states region (b ∷ c ∷ d) (suc k) less kills = last_kills wa
 
 pub passed_inside : (t : Tabled) → IsTabled t → (g : Graph) → AreGiven t g → (states : List ℕ) (inner : Inner) → WaitsInside t.graph.ways states inner →
     ((x : Source) → Has (sources g) x → IsOf states (set_at t.sets x.set)) → (d : List ℕ) → ((i : ℕ) → get_or d i 0 < 256) → (q : ℕ) → q ≤ length d →
-    EndsNowhere inner.text d q → IsTextBehind inner.kills d q → AllLeadBack t g (take q d)
+    EndsNowhere inner.text d q → IsBehind inner.kills d q → AllLeadBack t g (take q d)
 passed_inside t tabled g given states inner waits of d small zero le nowhere behind = none_back t g
 passed_inside t tabled g given states inner waits of d small (suc k) le nowhere behind = λ x h.
     inside_back t.graph states waits.region waits.depth inner.text waits.is (set_at t.sets x.set) (tabled.sets (set_at t.sets x.set) (Has-get_or t.sets x.set [] (given x h))).order (of x h)

@@ -1,11 +1,10 @@
 -- A pass in a layer that is told by its number: its own names, gliding, and running a program.
-use Rattle.std.proofs.Common.{◌≡◌, ℕ, ◌+◌, ◌-◌, ◌<◌, ◌≤◌, List, [], ◌∷◌, ◌++◌, length, get_or, slice_get, map, drop, take, Option, Some, None, IfSome, inl, refl, sym, ap, subst, arith, ◌∙◌}
+use Rattle.std.proofs.Common.{◌≡◌, ℕ, ◌+◌, ◌-◌, ◌<◌, ◌≤◌, List, [], ◌∷◌, ◌++◌, length, get_or, slice_get, drop, take, Option, Some, None, IfSome, inl, refl, sym, ap, subst, arith, ◌∙◌}
 use Rattle.std.proofs.lemmas.List.{length-map}
 use Rattle.std.proofs.lemmas.Option.{slice_get_within}
 use Rattle.span_core.specs.Lists.{AreDistinct}
-use Rattle.output_graph.specs.Cells.{NamedLink}
 use Rattle.output_graph.specs.declared.planned.Planned.{Planned}
-use Rattle.output_graph.specs.Graph.{AreApart, Graph, IsPast, IsPlace, Source, sets_of, source_of, sources}
+use Rattle.output_graph.specs.Graph.{AreApart, Graph, IsPast, IsPlace, sets_of, sources}
 use Rattle.output_graph.specs.Named.{handing, renamed}
 use Rattle.output_graph.specs.Planned.{AreRun, IsRunBy}
 use Rattle.output_graph.specs.Pools.{program_at}

@@ -2,12 +2,15 @@
 use Rattle.std.proofs.Common.{◌≡◌, ℕ, ◌+◌, ◌*◌, ◌≤◌, Bool, false, List, [], ◌∷◌, ◌++◌, length, sym, ap, subst, arith, ◌∙◌, refl, IfErr, IfOk, Result, Ok, Err}
 use Rattle.std.proofs.lemmas.List.{append-nil, append_assoc}
 use Rattle.marked_automaton.specs.Automaton.{Automaton}
+use Rattle.std.specs.Prelude.{◌↔◌}
 use Rattle.span_core.specs.Intervals.{AreApart, Covers}
+use Rattle.span_core.specs.Lists.{Has}
 use Rattle.automaton_reading.specs.Reading.{edges_K, ended, look_ups_asked}
 use Rattle.set_table.specs.declared.fault.TableFault.{TableFault}
 use Rattle.set_table.specs.declared.fault.TableFault.TheVariants.{Full, OutOfMemory}
 use Rattle.set_table.specs.Tabled.{IsTabled, Tabled}
-use Rattle.output_graph.specs.Graph.{Graph}
+use Rattle.node_arena.specs.Words.{Word}
+use Rattle.output_graph.specs.Graph.{Graph, HasWord, targets}
 use Rattle.one_pass.specs.declared.pass.Pass.{Pass}
 use Rattle.one_pass.specs.Builds.{IsNew, IsStarted, build}
 use Rattle.one_pass.specs.Faults.{IsFaultAt, IsFaultOf, IsReadFault}
@@ -18,6 +21,7 @@ use Rattle.one_pass.specs.Seen.{accepted_words}
 use Rattle.one_pass.specs.Weights.{WeighsWithin, least_weight}
 use Rattle.one_pass.proofs.Composing.{excess_grown, ready_distinct, look_ups_first, look_ups_then, stopped_at}
 use Rattle.one_pass.proofs.Faulting.{then_stopped}
+use Rattle.one_pass.proofs.GraphLaws.{accepted_listed}
 use Rattle.one_pass.proofs.PartLaws.{before_end, parts_all}
 use Rattle.one_pass.proofs.Weighing.{told_weighs}
 use Rattle.one_pass.proofs.Whole.{excess_weight, front_sets, look_ups_of_front, stopped_steps, tabled_start, whole_cells, whole_steps, whole_tells, whole_words}
@@ -134,6 +138,13 @@ module _ (d : List ℕ) (parts : List (ℕ × ℕ)) (apart : AreApart parts) (wi
           let limit : v.limit ≡ t.limit = done_here.table.limit ∙ read_here.table.limit in
           let told = told_weighs v done_here.sound look_ups (λ r h. whole_tells t.graph K d P refl (tabled_start t tabled) before begun ps all Q R read_here done_here r (due r h)) in
           subst (λ l. least_weight t.graph look_ups ≤ l) limit (subst (λ (A : Automaton). least_weight A look_ups ≤ v.limit) graph told)
+
+-- the rows of the turned graph are the words that are read
+pub words_listed : (A : Automaton) (K : ℕ → Bool) (d : List ℕ) (g : Graph) (ws : List Word) → ((w : Word) → Has ws w ↔ HasWord (targets g) 0 w) →
+    AreReadWords A K d (accepted_words g) → AreReadWords A K d ws
+words_listed A K d g ws exact read u =
+    let same = accepted_listed g ws exact u in
+    (λ h. (read u).0 (same.0 h), λ h. same.1 ((read u).1 h))
 
 -- what holds of a value and of an error
 pub either_way : {T E X : Type 0} (r : Result T E) → IfOk r (λ _. X) → IfErr r (λ _. X) → X

@@ -36,43 +36,38 @@ sums old new a b c e le first second = omega (arith, le, first, second)
 one_more : (cells many a b : ℕ) → cells ≡ many → many ≤ a + 1 → a ≤ b → cells ≤ b + 1
 one_more cells many a b is le less = omega (arith, is, le, less)
 
-module _ (q : QueryTree) (A B : Marked) (made : IsCompiled q A) (is : B ≡ A) (marked : IsMarked B) (d : List ℕ) (K : ℕ → Bool) where
-  compiled : IsCompiled q B
-  compiled = subst (λ (C : Marked). IsCompiled q C) (sym is) made
-
+module _ (q : QueryTree) (A : Marked) (made : IsCompiled q A) (marked : IsMarked A) (d : List ℕ) (K : ℕ → Bool) where
   -- a compiled query costs no more than its counted automaton
-  costs : CostsNoMore B.graph (counted q) d K
-  costs = reduct_costs B (counted q) marked compiled.reduces.1 d K
+  costs : CostsNoMore A.graph (counted q) d K
+  costs = reduct_costs A (counted q) marked made.reduces.1 d K
 
-  pub read_fault : (limit : ℕ) (e : TableFault) → IsReadFault B.graph K d limit e → IsReadFault (counted q) K d limit e
+  pub read_fault : (limit : ℕ) (e : TableFault) → IsReadFault A.graph K d limit e → IsReadFault (counted q) K d limit e
   read_fault limit (Full w) h = (let c = costs.weights in (h.0, omega (arith, h.1, c)))
   read_fault limit OutOfMemory h = tt
 
-  rebuild_within : (kept : Option KeptTable) → rebuild kept B.graph d K ≤ rebuild kept (counted q) d K
+  rebuild_within : (kept : Option KeptTable) → rebuild kept A.graph d K ≤ rebuild kept (counted q) d K
   rebuild_within None = omega arith
   rebuild_within (Some k) = costs.steps
 
-  pub steps_within : (kept : Option KeptTable) (old new : ℕ) → new ≤ old + rebuild kept B.graph d K + build B.graph d K →
+  pub steps_within : (kept : Option KeptTable) (old new : ℕ) → new ≤ old + rebuild kept A.graph d K + build A.graph d K →
       new ≤ old + rebuild kept (counted q) d K + build (counted q) d K
   steps_within kept old new le =
-      sums old new (rebuild kept B.graph d K) (build B.graph d K) (rebuild kept (counted q) d K) (build (counted q) d K) le (rebuild_within kept) costs.steps
+      sums old new (rebuild kept A.graph d K) (build A.graph d K) (rebuild kept (counted q) d K) (build (counted q) d K) le (rebuild_within kept) costs.steps
 
-  pub cells_within : (cells many : ℕ) → cells ≡ many → many ≤ edges_K B.graph d K + 1 → cells ≤ edges_K (counted q) d K + 1
-  cells_within cells many is le = one_more cells many (edges_K B.graph d K) (edges_K (counted q) d K) is le costs.edges
+  pub cells_within : (cells many : ℕ) → cells ≡ many → many ≤ edges_K A.graph d K + 1 → cells ≤ edges_K (counted q) d K + 1
+  cells_within cells many is le = one_more cells many (edges_K A.graph d K) (edges_K (counted q) d K) is le costs.edges
 
-  module _ (touched : Contains K (TouchedOf q d)) (bytes : (i : ℕ) → Fits w8 (slice_index_or d i 0)) (words : List Word) (read : AreReadWords B.graph K d words)
+  module _ (touched : Contains K (TouchedOf q d)) (bytes : (i : ℕ) → Fits w8 (slice_index_or d i 0)) (words : List Word) (read : AreReadWords A.graph K d words)
       (v : ℕ) (names : List (List ℕ)) (many : v ≡ length names) (named : names ≡ A.names) where
-    reads : ReadsAnswers q B d K
-    reads w = query_reading q made.sound B marked compiled.reduces d (bytes_of d bytes) K touched w
+    reads : ReadsAnswers q A d K
+    reads w = query_reading q made.sound A marked made.reduces d (bytes_of d bytes) K touched w
 
-    width : v ≡ length B.names
-    width = subst (λ (C : Marked). v ≡ length C.names) (sym is) (subst (λ (xs : List (List ℕ)). v ≡ length xs) named many)
+    width : v ≡ length A.names
+    width = subst (λ (xs : List (List ℕ)). v ≡ length xs) named many
 
     pub rows_to_list : (w : Word) → Has words w → IsWordOfRow v w
     rows_to_list w h =
-        subst (λ (k : ℕ). IsWordOfRow k w) (sym width) (words_are_of_rows q B d K reads words read w h)
+        subst (λ (k : ℕ). IsWordOfRow k w) (sym width) (words_are_of_rows q A d K reads words read w h)
 
     pub answers_listed : (whole : List SpanRow) → AreRowsOf v words whole → AreInBlockOrder whole → AreAnswers q d A.names whole
-    answers_listed whole are order =
-        subst (λ (C : Marked). AreAnswers q d C.names whole) is (
-        rows_are_answers q B d K reads words read whole (subst (λ (k : ℕ). AreRowsOf k words whole) width are) order)
+    answers_listed whole are order = rows_are_answers q A d K reads words read whole (subst (λ (k : ℕ). AreRowsOf k words whole) width are) order

@@ -1,24 +1,30 @@
 -- The positions at which a document is read, as sets.
-use Rattle.std.proofs.Common.{◌≡◌, ℕ, ◌+◌, ◌<◌, ◌≤◌, ◌⊎◌, ◌↔◌, Bool, true, false, List, [], ◌∷◌, length, Option, Some, None, inl, inr, sym, subst, arith}
+use Rattle.std.proofs.Common.{◌≡◌, ℕ, ◌+◌, ◌<◌, ◌≤◌, ◌⊎◌, ◌↔◌, Bool, true, false, List, [], ◌∷◌, length, Option, Some, None, inl, inr, sym, subst, arith, Fits, w8, slice_index_or}
 use Rattle.std.proofs.lemmas.Bool.{true≢false}
 use Rattle.std.specs.Bool.{one_answer}
 use Rattle.span_core.specs.Intervals.{Covers}
-use Rattle.spanner_model.specs.Answers.{SpanRow}
+use Rattle.span_core.specs.Lists.{Has}
+use Rattle.spanner_model.specs.Answers.{IsRest, SpanRow}
 use Rattle.spanner_model.specs.Expression.{AtomTree, ExprTree, QueryTree, atom, join, join_end, minus, named, project, union, union_end}
-use Rattle.marked_automaton.specs.Automaton.{Automaton}
+use Rattle.marked_automaton.specs.Automaton.{IsMarked, Marked}
 use Rattle.automaton_reading.specs.Reading.{edges_K}
+use Rattle.query_automaton.specs.CompiledQuery.{IsCompiled}
+use Rattle.enumerator.specs.Enumeration.{AreInBlockOrder, AreRowsOf, IsWordOfRow}
 use Rattle.segment_filter.specs.Touching.{Contains, IsSetOf}
 use Rattle.spanner_engine.specs.Touching.{HasMinus, SomeAtom, TouchedOf}
 use Rattle.set_table.specs.declared.fault.TableFault.{TableFault}
 use Rattle.set_table.specs.declared.fault.TableFault.TheVariants.{Full}
 use Rattle.one_pass.specs.Builds.{build}
 use Rattle.one_pass.specs.Faults.{IsReadFault}
-use Rattle.one_pass.specs.Places.{is_touched}
+use Rattle.one_pass.specs.Places.{AreReadWords, is_touched}
 use Rattle.one_pass.specs.Weights.{WeighsWithin}
+use Rattle.one_pass.specs.Words.{Word}
 use Rattle.one_pass.proofs.LawProofs.{touched_covers, covers_touched}
 use Rattle.spanner_engine.specs.Caching.{rebuild}
 use Rattle.one_pass.specs.declared.known_table.KeptTable.{KeptTable}
 use Rattle.spanner_engine.specs.Begun.{AreRead, IsReadAt, IsReadWithin, begin_steps, cells_sought, counted, filter_steps, table_weight}
+use Rattle.spanner_engine.specs.Left.{AreLeft}
+use Rattle.spanner_engine.proofs.FromWords.{answers_listed, cells_within, read_fault, rows_to_list, steps_within}
 
 -- ---- sets
 
@@ -70,51 +76,58 @@ touched_read true q d i h = h
 
 -- ---- the set of the positions that are read
 
--- p is the query q
-module _ (filter : Bool) (q p : QueryTree) (is : p ≡ q) (d : List ℕ) (parts : List (ℕ × ℕ)) (read : (i : ℕ) → Covers parts i ↔ IsReadAt filter p d i) where
-  are_read : AreRead filter q d (is_touched parts)
-  are_read =
-      subst (λ (r : QueryTree). AreRead filter r d (is_touched parts)) is
-      (λ i. (λ h. (read i).0 (touched_covers parts i h), λ h. covers_touched parts i ((read i).1 h)))
+module _ (filter : Bool) (q : QueryTree) (d : List ℕ) (parts : List (ℕ × ℕ)) (read : (i : ℕ) → Covers parts i ↔ IsReadAt filter q d i) where
+  abbrev K : ℕ → Bool
+  K = is_touched parts
+
+  are_read : AreRead filter q d K
+  are_read i = (λ h. (read i).0 (touched_covers parts i h), λ h. covers_touched parts i ((read i).1 h))
 
   pub parts_within : (i : ℕ) → Covers parts i → i ≤ length d
-  parts_within i h = read_within filter p d i ((read i).0 h)
+  parts_within i h = read_within filter q d i ((read i).0 h)
 
-  pub parts_contain : Contains (is_touched parts) (TouchedOf q d)
+  parts_contain : Contains K (TouchedOf q d)
   parts_contain i h = (are_read i).1 (touched_read filter q d i h)
 
   -- what holds of it holds of each such set
-  for_each : (P : (ℕ → Bool) → Type 0) → P (is_touched parts) → (K : ℕ → Bool) → AreRead filter q d K → P K
-  for_each P given K are = subst P (same_set (IsReadAt filter q d) (is_touched parts) K are_read are) given
-
-  pub read_limit : (A : Automaton) (limit : ℕ) → WeighsWithin A d (is_touched parts) limit → IsReadWithin A q d filter limit
-  read_limit A limit le = for_each (λ K. WeighsWithin A d K limit) le
-
-  pub table_cause : (limit weight : ℕ) (fault : TableFault) → fault ≡ Full weight → IsReadFault (counted q) (is_touched parts) d limit fault →
-      (limit < weight) × ((K : ℕ → Bool) → AreRead filter q d K → weight ≤ table_weight q d K)
-  table_cause limit weight fault full cause =
-      let told = subst (IsReadFault (counted q) (is_touched parts) d limit) full cause in
-      (told.0, for_each (λ K. weight ≤ table_weight q d K) told.1)
-
-  first_steps : (old found : ℕ) → found ≤ old + filter_steps filter p d → found ≤ old + filter_steps filter q d
-  first_steps old found le = subst (λ (r : QueryTree). found ≤ old + filter_steps filter r d) is le
-
-  -- where reading ends early
-  pub steps_read : (kept : Option KeptTable) (old found new : ℕ) (after : Option SpanRow) → found ≤ old + filter_steps filter p d →
-      new ≤ found + rebuild kept (counted q) d (is_touched parts) + build (counted q) d (is_touched parts) →
-      (K : ℕ → Bool) → AreRead filter q d K → new ≤ old + rebuild kept (counted q) d K + begin_steps filter q d K after
-  steps_read kept old found new after first next =
-      let start = first_steps old found first in for_each (λ K. new ≤ old + rebuild kept (counted q) d K + begin_steps filter q d K after) (omega (arith, start, next))
+  for_each : (P : (ℕ → Bool) → Type 0) → P K → (J : ℕ → Bool) → AreRead filter q d J → P J
+  for_each P given J are = subst P (same_set (IsReadAt filter q d) K J are_read are) given
 
   sought_most : (cells most : ℕ) (after : Option SpanRow) → cells ≤ most → cells_sought cells after ≤ cells_sought most after
   sought_most cells most None le = omega arith
   sought_most cells most (Some row) le = le
 
-  pub steps_sought : (kept : Option KeptTable) (old found built new cells : ℕ) (after : Option SpanRow) → found ≤ old + filter_steps filter p d →
-      built ≤ found + rebuild kept (counted q) d (is_touched parts) + build (counted q) d (is_touched parts) →
-      cells ≤ edges_K (counted q) d (is_touched parts) + 1 → new ≤ built + cells_sought cells after →
-      (K : ℕ → Bool) → AreRead filter q d K → new ≤ old + rebuild kept (counted q) d K + begin_steps filter q d K after
-  steps_sought kept old found built new cells after first next few last =
-      let start = first_steps old found first in
-      let most = sought_most cells (edges_K (counted q) d (is_touched parts) + 1) after few in
-      for_each (λ K. new ≤ old + rebuild kept (counted q) d K + begin_steps filter q d K after) (omega (arith, start, next, last, most))
+  -- by the automaton of the query
+  module _ (A : Marked) (made : IsCompiled q A) (marked : IsMarked A) where
+    pub read_limit : (limit : ℕ) → WeighsWithin A.graph d K limit → IsReadWithin A.graph q d filter limit
+    read_limit limit le = for_each (λ J. WeighsWithin A.graph d J limit) le
+
+    pub table_cause : (limit weight : ℕ) (fault : TableFault) → fault ≡ Full weight → IsReadFault A.graph K d limit fault →
+        (limit < weight) × ((J : ℕ → Bool) → AreRead filter q d J → weight ≤ table_weight q d J)
+    table_cause limit weight fault full cause =
+        let told = subst (IsReadFault (counted q) K d limit) full (read_fault q A made marked d K limit fault cause) in
+        (told.0, for_each (λ J. weight ≤ table_weight q d J) told.1)
+
+    -- where reading ends early
+    pub steps_read : (kept : Option KeptTable) (old found new : ℕ) (after : Option SpanRow) → found ≤ old + filter_steps filter q d →
+        new ≤ found + rebuild kept A.graph d K + build A.graph d K →
+        (J : ℕ → Bool) → AreRead filter q d J → new ≤ old + rebuild kept (counted q) d J + begin_steps filter q d J after
+    steps_read kept old found new after first next =
+        let built = steps_within q A made marked d K kept found new next in
+        for_each (λ J. new ≤ old + rebuild kept (counted q) d J + begin_steps filter q d J after) (omega (arith, first, built))
+
+    pub steps_sought : (kept : Option KeptTable) (old found built new cells many : ℕ) (after : Option SpanRow) → found ≤ old + filter_steps filter q d →
+        built ≤ found + rebuild kept A.graph d K + build A.graph d K → cells ≡ many → many ≤ edges_K A.graph d K + 1 → new ≤ built + cells_sought cells after →
+        (J : ℕ → Bool) → AreRead filter q d J → new ≤ old + rebuild kept (counted q) d J + begin_steps filter q d J after
+    steps_sought kept old found built new cells many after first next is few last =
+        let read = steps_within q A made marked d K kept found built next in
+        let most = sought_most cells (edges_K (counted q) d K + 1) after (cells_within q A made marked d K cells many is few) in
+        for_each (λ J. new ≤ old + rebuild kept (counted q) d J + begin_steps filter q d J after) (omega (arith, first, read, last, most))
+
+    module _ (bytes : (i : ℕ) → Fits w8 (slice_index_or d i 0)) (words : List Word) (listed : AreReadWords A.graph K d words)
+        (v : ℕ) (names : List (List ℕ)) (many : v ≡ length names) (named : names ≡ A.names) where
+      pub rows_listed : (w : Word) → Has words w → IsWordOfRow v w
+      rows_listed = rows_to_list q A made marked d K parts_contain bytes words listed v names many named
+
+      pub answers_left : (whole rest : List SpanRow) (after : Option SpanRow) → AreRowsOf v words whole → AreInBlockOrder whole → IsRest after whole rest → AreLeft q d A.names after rest
+      answers_left whole rest after are order behind = (whole, answers_listed q A made marked d K parts_contain bytes words listed v names many named whole are order, behind)
