@@ -6,7 +6,7 @@ ghost use Rattle.node_arena.specs.Words.{Word};
 ghost use Rattle.node_arena.specs.Rows.{rows};
 ghost use Rattle.enumerator.specs.Enumeration.{AreInBlockOrder, AreRowsOf, IsRestAfter, IsWordOfRow};
 
-use crate::positions::{MOST_MARKERS, absent_spans, read_spans, row_of};
+use crate::positions::{MOST_MARKERS, ReadRow, absent_spans, read_spans, row_of};
 use crate::seeking::seek_row;
 use crate::stack::Stack;
 use crate::walking::{next_row, wait};
@@ -23,11 +23,9 @@ use std::sync::ledger::Ledger;
 pub struct Enumerator {
     lists: RowLists,
     variables: usize,
-    positions: [u32; MOST_MARKERS],
-    spans: [Option<Span>; MOST_VARIABLES],
+    /// The row that it stands at.
+    current: ReadRow,
     stack: Stack,
-    /// The markers of the row that it stands at.
-    settled: Marks,
 }
 
 impl Model for Enumerator {
@@ -43,11 +41,11 @@ impl Model for Enumerator {
       variables = e.variables;
       cells = length e.lists.store;
       whole = rows_of e.lists e.variables;
-      rest = waiting_rows e.lists.store e.variables (positions_of e.positions) e.stack;
-      row = take e.variables e.spans;
+      rest = waiting_rows e.lists.store e.variables (positions_of e.current.positions) e.stack;
+      row = take e.variables e.current.spans;
     } };
 
-    ghost invariant = { λ e. IsEnumerating e.lists e.variables e.stack e.spans e.settled e.positions };
+    ghost invariant = { λ e. IsEnumerating e.lists e.variables e.stack e.current.spans e.current.settled e.current.positions };
 }
 
 impl Enumerator {
@@ -69,10 +67,12 @@ impl Enumerator {
         Enumerator {
             lists,
             variables: v,
-            positions,
-            spans,
+            current: ReadRow {
+                settled: Marks::none(),
+                positions,
+                spans,
+            },
             stack,
-            settled: Marks::none(),
         }
     }
 
@@ -90,16 +90,16 @@ impl Enumerator {
             &self.lists,
             self.variables,
             after,
-            &mut self.positions,
+            &mut self.current.positions,
             &mut self.stack,
             steps,
         );
-        self.settled = Marks::none();
+        self.current.settled = Marks::none();
         read_spans(
             self.variables,
-            self.settled,
-            &self.positions,
-            &mut self.spans,
+            self.current.settled,
+            &self.current.positions,
+            &mut self.current.spans,
         );
     }
 
@@ -116,9 +116,7 @@ impl Enumerator {
         next_row(
             &self.lists,
             self.variables,
-            &mut self.settled,
-            &mut self.positions,
-            &mut self.spans,
+            &mut self.current,
             &mut self.stack,
             steps,
         )
@@ -128,14 +126,14 @@ impl Enumerator {
     pub fn spans(&self) -> &[Option<Span>]
         ensures { result.now ≡ self.now.row }
     {
-        &self.spans[..self.variables]
+        &self.current.spans[..self.variables]
     }
 
     /// The row that it stands at.
     pub fn row(&self) -> Row
         ensures { result ≡ self.now.row }
     {
-        row_of(&self.spans[..self.variables])
+        row_of(&self.current.spans[..self.variables])
     }
 
     /// The next row; None exactly where none is left, and from then on until a seek. It takes no
