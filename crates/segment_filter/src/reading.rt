@@ -57,31 +57,37 @@ pub(crate) fn read_back<L: Ledger>(
     Ok(numbers)
 }
 
+/// What a reading from the end leaves: the table of its sets, and the number of the set at each position, from the last on.
+#[derive(Drop)]
+pub(crate) struct BackReading<'a> {
+    pub(crate) table: DenseTable<'a>,
+    pub(crate) numbers: Numbers,
+}
+
 /// Reads the document, and gives the positions at which a state that is led to is also one of those that the
 /// bytes from the end lead back to, and is at most `most`.
 pub(crate) fn meetings<L: Ledger>(
     alloc: Global,
     table: &mut DenseTable<'_>,
-    back: &DenseTable<'_>,
-    numbers: &Numbers,
+    back: &BackReading<'_>,
     doc: &[u8],
     most: u32,
     steps: &mut Steps<L>,
 ) -> Result<Touched, FilterFault>
     requires plain { TakesNone table.old.graph }
     requires fresh { table.old ≡ fresh table.old.graph table.old.limit }
-    requires numbers { ReadsAll back.now (reverse doc.now) (numbers_of numbers.now) }
+    requires numbers { ReadsAll back.now.table (reverse doc.now) (numbers_of back.now.numbers) }
     requires small { length doc.now < 2 ^ 32 }
     ensures within { OnOk result (reading_weight table.old.graph doc.now ≤ table.old.limit) }
     ensures full { IfErr result (λ e. IsFullWithin table.old.limit (reading_weight table.old.graph doc.now) e) }
     ensures steps { steps.new ≤ steps.old + length doc.now + size table.old.graph * reading_look_ups table.old.graph doc.now }
-    ensures ok { IfOk result (λ t. (i : ℕ) → Covers t i ↔ ((i ≤ length doc.now) × MeetAt table.old.graph back.now.graph most doc.now i)) }
+    ensures ok { IfOk result (λ t. (i : ℕ) → Covers t i ↔ ((i ≤ length doc.now) × MeetAt table.old.graph back.now.table.graph most doc.now i)) }
 {
     let mut touched = Touched::new(alloc);
     let mut seen = Comparisons::new(alloc)?;
     let mut set = table.start();
     for at in 0..doc.len() {
-        let meets = meet(table, back, numbers, set, doc.len() - at, most, &mut seen);
+        let meets = meet(table, back, set, doc.len() - at, most, &mut seen);
         mark(&mut touched, meets, at as u32)?;
         let next = match table.next(set, doc[at], steps) {
             Ok(next) => next,
@@ -92,7 +98,7 @@ pub(crate) fn meetings<L: Ledger>(
             None => return Ok(touched),
         };
     }
-    let meets = meet(table, back, numbers, set, 0, most, &mut seen);
+    let meets = meet(table, back, set, 0, most, &mut seen);
     mark(&mut touched, meets, doc.len() as u32)?;
     Ok(touched)
 }
@@ -101,27 +107,27 @@ pub(crate) fn meetings<L: Ledger>(
 #[inline(always)]
 fn meet(
     table: &DenseTable<'_>,
-    back: &DenseTable<'_>,
-    numbers: &Numbers,
+    back: &BackReading<'_>,
     set: u32,
     behind: usize,
     most: u32,
     seen: &mut Comparisons,
 ) -> bool
     requires set { (set < length table.now.sets) × IsInOrder ◌<◌ (set_at table.now.sets set) }
-    requires numbers { behind < length (numbers_of numbers.now) → (slice_index (numbers_of numbers.now) behind < length back.now.sets)
-        × IsInOrder ◌<◌ (set_at back.now.sets (slice_index (numbers_of numbers.now) behind)) }
+    requires numbers { behind < length (numbers_of back.now.numbers) → (slice_index (numbers_of back.now.numbers) behind < length back.now.table.sets)
+        × IsInOrder ◌<◌ (set_at back.now.table.sets (slice_index (numbers_of back.now.numbers) behind)) }
     requires places { length seen.old.pairs.items ≡ PLACES }
-    requires right { AreRemembered most table.now.sets back.now.sets seen.old.pairs.items }
-    ensures meets { IsTrue result ↔ ((behind < length (numbers_of numbers.now)) × HaveShared most (set_at table.now.sets set) (set_at back.now.sets (slice_index (numbers_of numbers.now) behind))) }
+    requires right { AreRemembered most table.now.sets back.now.table.sets seen.old.pairs.items }
+    ensures meets { IsTrue result ↔ ((behind < length (numbers_of back.now.numbers))
+        × HaveShared most (set_at table.now.sets set) (set_at back.now.table.sets (slice_index (numbers_of back.now.numbers) behind))) }
     ensures places { length seen.new.pairs.items ≡ PLACES }
-    ensures right { AreRemembered most table.now.sets back.now.sets seen.new.pairs.items }
+    ensures right { AreRemembered most table.now.sets back.now.table.sets seen.new.pairs.items }
 {
-    if behind >= numbers.len() {
+    if behind >= back.numbers.len() {
         return false;
     }
-    let other = numbers.at(behind);
-    seen.meet(most, table, set, back, other)
+    let other = back.numbers.at(behind);
+    seen.meet(most, table, set, &back.table, other)
 }
 
 /// Adds a position, where it is touched, that is greater than each that is there.

@@ -16,8 +16,7 @@ ghost use Rattle.segment_filter.specs.Touching.{IsTouchedBy};
 
 use crate::FilterFault;
 use crate::dense::DenseTable;
-use crate::numbers::Numbers;
-use crate::reading::{meetings, read_back};
+use crate::reading::{BackReading, meetings, read_back};
 use crate::readings::Readings;
 use set_table::TableFault;
 use span_core::{Steps, Touched};
@@ -81,37 +80,40 @@ fn touched_by<L: Ledger>(
         Ok(numbers) => numbers,
         Err(fault) => return Err(fault),
     };
-    touched_ahead(alloc, readings, &behind, &numbers, doc, limit, steps)
+    let back = BackReading {
+        table: behind,
+        numbers,
+    };
+    touched_ahead(alloc, readings, &back, doc, limit, steps)
 }
 
-/// The positions at which the reading from the start meets the one from the end, whose table and numbers of
-/// sets are given. Both tables together are held to the limit.
+/// The positions at which the reading from the start meets the one from the end. The tables of both together are held
+/// to the limit.
 fn touched_ahead<'r, L: Ledger>(
     alloc: Global,
     readings: &'r Readings,
-    behind: &DenseTable<'r>,
-    numbers: &Numbers,
+    back: &BackReading<'r>,
     doc: &[u8],
     limit: u64,
     steps: &mut Steps<L>,
 ) -> Result<Touched, FilterFault>
     requires forward { TakesNone readings.now.forward.graph }
-    requires numbers { ReadsAll behind.now (reverse doc.now) (numbers_of numbers.now) }
-    requires within { weight behind.now ≤ limit }
+    requires numbers { ReadsAll back.now.table (reverse doc.now) (numbers_of back.now.numbers) }
+    requires within { weight back.now.table ≤ limit }
     requires small { length doc.now < 2 ^ 32 }
     requires limit { limit ≤ 100000000 }
-    ensures ok { IfOk result (λ t. (i : ℕ) → Covers t i ↔ ((i ≤ length doc.now) × MeetAt readings.now.forward.graph behind.now.graph readings.now.most doc.now i)) }
-    ensures within { OnOk result (weight behind.now + reading_weight readings.now.forward.graph doc.now ≤ limit) }
-    ensures full { IfErr result (λ e. IsFullWithin limit (weight behind.now + reading_weight readings.now.forward.graph doc.now) e) }
+    ensures ok { IfOk result (λ t. (i : ℕ) → Covers t i ↔ ((i ≤ length doc.now) × MeetAt readings.now.forward.graph back.now.table.graph readings.now.most doc.now i)) }
+    ensures within { OnOk result (weight back.now.table + reading_weight readings.now.forward.graph doc.now ≤ limit) }
+    ensures full { IfErr result (λ e. IsFullWithin limit (weight back.now.table + reading_weight readings.now.forward.graph doc.now) e) }
     ensures steps { steps.new ≤ steps.old + (length doc.now + 1 + size readings.now.forward.graph * reading_look_ups readings.now.forward.graph doc.now) }
 {
-    let spent = behind.weight();
+    let spent = back.table.weight();
     let mut ahead = match DenseTable::new(alloc, &readings.forward, limit - spent, steps) {
         Ok(table) => table,
         Err(fault) => return Err(heavier(fault_of(fault), spent)),
     };
     let most = readings.most;
-    match meetings(alloc, &mut ahead, behind, numbers, doc, most, steps) {
+    match meetings(alloc, &mut ahead, back, doc, most, steps) {
         Ok(touched) => Ok(touched),
         Err(fault) => Err(heavier(fault, spent)),
     }

@@ -19,24 +19,24 @@ loop-at-init g c =
     record {
       grows = grows_not t t refl;
       places = c.in_ok-seen.ensures.places;
-      right = c.in_ok-seen.ensures.right c.args.most t.sets c.args.back.now.sets;
+      right = c.in_ok-seen.ensures.right c.args.most t.sets c.args.back.now.table.sets;
       reading = reading_starts t c.args.doc.now c.start-set.result c.args.steps.now c.requires.fresh c.start-set.ensures.value c.start-set.ensures.tabled;
       here = subst (IsAt t c.args.doc.now 0) (sym c.start-set.ensures.value) (at_start t c.args.doc.now c.start-set.ensures.tabled);
       covers = λ i. (λ h. absurd (subst (λ s. Covers s i) c.new-touched.ensures h), λ h. absurd (omega (arith, h.0)));
     }
 
 pub meet-meets-requires-clause-numbers : goal.meet-meets-requires-clause-numbers
-meet-meets-requires-clause-numbers g c l = kept_at c.args.back.now _ (numbers_of c.args.numbers.now) c.requires.numbers _ l
+meet-meets-requires-clause-numbers g c l = kept_at c.args.back.now.table _ (numbers_of c.args.back.now.numbers) c.requires.numbers _ l
 
 pub meet-meets-requires-2-clause-numbers : goal.meet-meets-requires-2-clause-numbers
-meet-meets-requires-2-clause-numbers g c l = kept_at c.args.back.now _ (numbers_of c.args.numbers.now) c.requires.numbers 0 l
+meet-meets-requires-2-clause-numbers g c l = kept_at c.args.back.now.table _ (numbers_of c.args.back.now.numbers) c.requires.numbers 0 l
 
 pub returns-in-None-clause-ok : goal.returns-in-None-clause-ok
 returns-in-None-clause-ok g c =
     let new = c.next.new.self in
     let old = c.loop-at.table in
     let first = c.args.table.now in
-    let back = c.args.back.now in
+    let back = c.args.back.now.table in
     let d = c.args.doc.now in
     let at = c.loop-at.at in
     let l : at < length d = omega arith in
@@ -45,7 +45,8 @@ returns-in-None-clause-ok g c =
     let byte = slice_get-get_or d at 0 l in
     let M : ℕ → Type 0 = MeetAt first.graph back.graph c.args.most d in
     let sum : at + (length d - at) ≡ length d = omega (arith, l) in
-    let is = meets_is old first back d (numbers_of c.args.numbers.now) c.loop-at.set at (length d - at) c.args.most c.meet-meets.result c.requires.numbers inv.grows inv.here sum c.meet-meets.ensures.meets in
+    let is = meets_is old first back d (numbers_of c.args.back.now.numbers) c.loop-at.set at (length d - at) c.args.most c.meet-meets.result
+    c.requires.numbers inv.grows inv.here sum c.meet-meets.ensures.meets in
     let more = covers_more (Covers c.loop-at.touched) (Covers c.mark.new.touched) M c.meet-meets.result at inv.covers is c.in_ok-mark.ensures in
     let grew = next_grows new old first d at c.loop-at.set (get_or d at 0) c.requires.plain inv.grows c.in-Ok.ensures.tabled ok.0 byte inv.here in
     let none = next_none new old first d at c.loop-at.set (get_or d at 0) c.requires.plain inv.grows c.in-Ok.ensures.tabled ok.0 byte inv.here c.in-Ok.next ok.1 c.in-None.is in
@@ -56,7 +57,7 @@ loop-at-preserved g c =
     let new = c.next.new.self in
     let old = c.loop-at.table in
     let first = c.args.table.now in
-    let back = c.args.back.now in
+    let back = c.args.back.now.table in
     let d = c.args.doc.now in
     let at = c.loop-at.at in
     let l : at < length d = omega arith in
@@ -65,7 +66,8 @@ loop-at-preserved g c =
     let byte = slice_get-get_or d at 0 l in
     let M : ℕ → Type 0 = MeetAt first.graph back.graph c.args.most d in
     let sum : at + (length d - at) ≡ length d = omega (arith, l) in
-    let is = meets_is old first back d (numbers_of c.args.numbers.now) c.loop-at.set at (length d - at) c.args.most c.meet-meets.result c.requires.numbers inv.grows inv.here sum c.meet-meets.ensures.meets in
+    let is = meets_is old first back d (numbers_of c.args.back.now.numbers) c.loop-at.set at (length d - at) c.args.most c.meet-meets.result
+    c.requires.numbers inv.grows inv.here sum c.meet-meets.ensures.meets in
     let here = next_some new old first d at c.loop-at.set (get_or d at 0) c.requires.plain inv.grows c.in-Ok.ensures.tabled ok.0 byte inv.here c.in-Ok.next c.in-Some.to ok.1 c.in-Some.is in
     record {
       grows = next_grows new old first d at c.loop-at.set (get_or d at 0) c.requires.plain inv.grows c.in-Ok.ensures.tabled ok.0 byte inv.here;
@@ -82,16 +84,18 @@ pub returns-clause-ok : goal.returns-clause-ok
 returns-clause-ok g c =
     let old = c.loop-at.table in
     let first = c.args.table.now in
-    let back = c.args.back.now in
+    let back = c.args.back.now.table in
     let d = c.args.doc.now in
     let at = c.loop-at.at in
     let end : at ≡ length d = omega arith in
     let inv = c.loop-at.invariant in
     let M : ℕ → Type 0 = MeetAt first.graph back.graph c.args.most d in
     let sum : at + 0 ≡ length d = omega (arith, end) in
-    let is = meets_is old first back d (numbers_of c.args.numbers.now) c.loop-at.set at 0 c.args.most c.meet-meets-2.result c.requires.numbers inv.grows inv.here sum c.meet-meets-2.ensures.meets in
+    let is = meets_is old first back d (numbers_of c.args.back.now.numbers) c.loop-at.set at 0 c.args.most c.meet-meets-2.result
+    c.requires.numbers inv.grows inv.here sum c.meet-meets-2.ensures.meets in
     let marked = λ (q : ℕ). subst (λ n. Covers c.mark-2.new.touched q ↔ (Covers c.loop-at.touched q ⊎ (IsTrue c.meet-meets-2.result × (q ≡ n)))) (sym end) (c.in_ok-mark-2.ensures q) in
-    covers_all (Covers c.mark-2.new.touched) M at (length d) end (covers_more (Covers c.loop-at.touched) (Covers c.mark-2.new.touched) M c.meet-meets-2.result at inv.covers is marked)
+    covers_all (Covers c.mark-2.new.touched) M at (length d) end
+    (covers_more (Covers c.loop-at.touched) (Covers c.mark-2.new.touched) M c.meet-meets-2.result at inv.covers is marked)
 
 pub returns-in-None-clause-within : goal.returns-in-None-clause-within
 returns-in-None-clause-within g c =

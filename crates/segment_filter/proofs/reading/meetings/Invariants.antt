@@ -11,7 +11,7 @@ invariant-loop-at g l = record {
   grows : Grows l.table l.fn.table;
   reading : IsReading l.fn.table l.table l.doc l.at l.set l.fn.steps l.steps;
   places : length l.seen.pairs.items ≡ PLACES;
-  right : AreRemembered l.most l.table.sets l.back.sets l.seen.pairs.items;
+  right : AreRemembered l.most l.table.sets l.back.table.sets l.seen.pairs.items;
   here : IsAt l.table l.doc l.at l.set;
-  covers : (i : ℕ) → Covers l.touched i ↔ ((i < l.at) × MeetAt l.fn.table.graph l.back.graph l.most l.doc i);
+  covers : (i : ℕ) → Covers l.touched i ↔ ((i < l.at) × MeetAt l.fn.table.graph l.back.table.graph l.most l.doc i);
 }

@@ -11,7 +11,7 @@ returns-in-Err-clause-full g c =
     let ahead = reading_weight F d in
     let spent = c.weight-spent.result in
     let value = c.weight-spent.ensures.value in
-    c.heavier.ensures c.args.limit ahead (weight c.args.behind.now) c.requires.limit
+    c.heavier.ensures c.args.limit ahead (weight c.args.back.now.table) c.requires.limit
     (omega (arith, value, c.requires.within)) (omega (arith, value))
     (c.fault_of.ensures (fresh F (c.args.limit - spent)) (c.args.limit - spent) ahead c.in-Err.ensures.refused refl (fresh_weighs F (c.args.limit - spent) d))
 
@@ -20,7 +20,7 @@ returns-clause-full g c =
     let d = c.args.doc.now in
     let ahead = reading_weight c.args.readings.now.forward.graph d in
     let value = c.weight-spent.ensures.value in
-    c.heavier-in-Err-meetings.ensures c.args.limit ahead (weight c.args.behind.now) c.requires.limit
+    c.heavier-in-Err-meetings.ensures c.args.limit ahead (weight c.args.back.now.table) c.requires.limit
     (omega (arith, value, c.requires.within)) (omega (arith, value))
     (subst (λ (t : Tabled). IsFullWithin t.limit (reading_weight t.graph d) c.in-Err-meetings.fault) c.in-Ok.ensures.ok c.in-Err-meetings.ensures.full)
 
