@@ -15,43 +15,43 @@ use crate::MOST_ENDS;
 use crate::effort::Effort;
 use crate::fault::JoinFault;
 use crate::halves::{HalfStop, Operand};
-use crate::pairs::{Pair, Search};
+use crate::pairs::{Pair, ReachedPairs};
 use crate::rows::stops_from;
 use marked_automaton::{Automaton, Stop};
 use span_core::{Marks, OutOfMemory, VarSet};
 use std::alloc::Global;
 
-/// The automaton over these variables whose states are the pairs that were found, the first `starts` of
-/// which are its starts, with the ways that were made.
+/// The automaton over these variables whose states are the pairs that are reached, the first of which are its starts,
+/// with the ways between them.
 pub(crate) fn assembled(
     alloc: Global,
     vars: VarSet,
-    search: Search,
-    starts: u32,
+    reached: ReachedPairs,
     left: &Operand<'_>,
     right: &Operand<'_>,
     effort: &mut Effort,
 ) -> Result<Automaton, JoinFault>
     requires few { length vars ≤ MOST_VARIABLES }
-    requires few_states { length search.found.keys ≤ MOST_STATES }
-    requires starts { starts ≤ length search.found.keys }
-    requires ways { All (IsWayOf (length search.found.keys) (length vars)) search.ways.items }
-    requires within { AreWithin (graph_of left.now).states (graph_of right.now).states search.found.keys }
-    requires idle { (p : ℕ) → IsIdlePair search.found.keys (graph_of left.now).idle (graph_of right.now).idle p → Has search.ways.items (idle_way p) }
+    requires few_states { length reached.found.keys ≤ MOST_STATES }
+    requires starts { reached.starts ≤ length reached.found.keys }
+    requires ways { All (IsWayOf (length reached.found.keys) (length vars)) reached.ways.items }
+    requires within { AreWithin (graph_of left.now).states (graph_of right.now).states reached.found.keys }
+    requires idle { (p : ℕ) → IsIdlePair reached.found.keys (graph_of left.now).idle (graph_of right.now).idle p → Has reached.ways.items (idle_way p) }
     requires left { IsNonDecreasingBy half_at left.now.stops.items }
     requires right { IsNonDecreasingBy half_at right.now.stops.items }
     requires marks { (x y : HalfStop) → Has left.now.stops.items x → Has right.now.stops.items y → x.stop.marks + y.stop.marks < 2 ^ (2 * length vars) }
     ensures names { IfOk result (λ j. j.names ≡ vars) }
-    ensures made { IfOk result (λ j. IsAssembledOf left.now right.now search.found.keys starts search.ways.items j.graph) }
-    ensures fault { IfErr result (IsJoinFaultWithin (length search.found.keys) (length search.ways.items) (length (flat_map (stops_at_pair left.now.stops.items right.now.stops.items) search.found.keys))) }
+    ensures made { IfOk result (λ j. IsAssembledOf left.now right.now reached.found.keys reached.starts reached.ways.items j.graph) }
+    ensures fault { IfErr result (IsJoinFaultWithin (length reached.found.keys) (length reached.ways.items)
+        (length (flat_map (stops_at_pair left.now.stops.items right.now.stops.items) reached.found.keys))) }
     ensures effort { effort.new ≤ effort.old }
-    ensures spent { IfErr result (IsSpentOn effort.old (length (stops_tried left.now.stops.items right.now.stops.items search.found.keys))) }
-    ensures steps { OnOk result (effort.old ≤ effort.new + length (stops_tried left.now.stops.items right.now.stops.items search.found.keys)) }
+    ensures spent { IfErr result (IsSpentOn effort.old (length (stops_tried left.now.stops.items right.now.stops.items reached.found.keys))) }
+    ensures steps { OnOk result (effort.old ≤ effort.new + length (stops_tried left.now.stops.items right.now.stops.items reached.found.keys)) }
 {
-    let states = search.found.len() as u32;
-    let mut automaton = Automaton::with_ways(alloc, vars, states, search.ways)?;
-    let found = search.found.as_slice();
-    add_starts(&mut automaton, starts)?;
+    let states = reached.found.len() as u32;
+    let mut automaton = Automaton::with_ways(alloc, vars, states, reached.ways)?;
+    let found = reached.found.as_slice();
+    add_starts(&mut automaton, reached.starts)?;
     add_stops(
         &mut automaton,
         found,
@@ -168,7 +168,8 @@ fn add_stops(
     requires right { IsNonDecreasingBy half_at ys.now }
     requires marks { (x y : HalfStop) → Has xs.now x → Has ys.now y → x.stop.marks + y.stop.marks < 2 ^ (2 * length automaton.old.names) }
     ensures names { automaton.new.names ≡ automaton.old.names }
-    ensures stops { OnOk result ((made : List StopOf) × (automaton.new.graph.stops ≡ automaton.old.graph.stops ++ made) × Matched (IsStopAt found.now) (flat_map (stops_at_pair xs.now ys.now) found.now) made) }
+    ensures stops { OnOk result ((made : List StopOf) × (automaton.new.graph.stops ≡ automaton.old.graph.stops ++ made)
+        × Matched (IsStopAt found.now) (flat_map (stops_at_pair xs.now ys.now) found.now) made) }
     ensures same { OnOk result (HasAllButStops automaton.new.graph automaton.old.graph) }
     ensures fault { IfErr result (IsJoinFaultWithin 0 0 (length automaton.old.graph.stops + length (flat_map (stops_at_pair xs.now ys.now) found.now))) }
     ensures effort { effort.new ≤ effort.old }

@@ -70,6 +70,6 @@ fn join_grouped(
     let all = names_of_both(a.vars(), b.vars());
     let left = Operand::of(alloc, a, &all, a, true, b)?;
     let right = Operand::of(alloc, b, &all, a, false, a)?;
-    let (search, starts) = searched(alloc, &left, &right, effort)?;
-    assembled(alloc, all, search, starts, &left, &right, effort)
+    let reached = searched(alloc, &left, &right, effort)?;
+    assembled(alloc, all, reached, &left, &right, effort)
 }

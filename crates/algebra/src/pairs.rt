@@ -22,12 +22,22 @@ pub(crate) struct Pair {
     pub(crate) right: u32,
 }
 
+/// All pairs that are reached from pairs of starts, numbered in the order in which they were found, and the ways
+/// between them.
+#[derive(Drop)]
+pub(crate) struct ReachedPairs {
+    pub(crate) found: IndexSet<Pair>,
+    pub(crate) ways: Vec<Way>,
+    /// So many of the first pairs are those of starts, and no others are.
+    pub(crate) starts: u32,
+}
+
 /// The pairs that are found, numbered in the order in which they were, and the ways from those that are
 /// followed.
 #[derive(Drop)]
-pub(crate) struct Search {
-    pub(crate) found: IndexSet<Pair>,
-    pub(crate) ways: Vec<Way>,
+struct Search {
+    found: IndexSet<Pair>,
+    ways: Vec<Way>,
 }
 
 /// The ways at the two states of a pair, as those of a join's sides. They are made for one pair after the
@@ -38,18 +48,18 @@ struct Rows {
     right: Vec<HalfWay>,
 }
 
-/// All pairs that are reached from pairs of starts, and the ways between them. The first pairs, so many as
-/// it says, are those of starts. Where the effort is used up, it is refused.
+/// All pairs that are reached from pairs of starts, and the ways between them. Where the effort is used up, it is
+/// refused.
 pub(crate) fn searched(
     alloc: Global,
     left: &Operand<'_>,
     right: &Operand<'_>,
     effort: &mut Effort,
-) -> Result<(Search, u32), JoinFault>
+) -> Result<ReachedPairs, JoinFault>
     requires left { IsJoinable left.now }
     requires right { IsJoinable right.now }
     requires marks { HaveSmallMarks (half_ways_of left.now) (half_ways_of right.now) }
-    ensures searched { IfOk result (λ r. IsSearchOf left.now right.now r.0.found.keys r.1 r.0.ways.items) }
+    ensures searched { IfOk result (λ r. IsSearchOf left.now right.now r.found.keys r.starts r.ways.items) }
     ensures fault { IfErr result (IsTold (IsSearchRefusal left.now right.now)) }
     ensures effort { effort.new ≤ effort.old }
     ensures spent { IfErr result (IsSpentOn effort.old (3 * (length (half_ways_of left.now) * length (half_ways_of right.now)))) }
@@ -59,7 +69,12 @@ pub(crate) fn searched(
     search.find_all(left.automaton.starts(), right.automaton.starts())?;
     let starts = search.found.len() as u32;
     search.follow_all(alloc, left, right, effort)?;
-    Ok((search, starts))
+    let Search { found, ways } = search;
+    Ok(ReachedPairs {
+        found,
+        ways,
+        starts,
+    })
 }
 
 /// Refuses what may have too many pairs of states.

@@ -25,9 +25,10 @@ returns-clause-made c =
     let given = c.in_ok-add_stops.ensures.stops in
     let rows : flat_map (stops_at_pair c.as_slice.result.now c.as_slice-2.result.now) slice ≡ flat_map (stops_at_pair left right) slice =
     (λ i. flat_map (stops_at_pair (c.as_slice.ensures.value i) (c.as_slice-2.ensures.value i)) slice) in
-    let stops : (made : List Stop) × (c.add_stops.new.automaton.graph.stops ≡ c.add_starts.new.automaton.graph.stops ++ made) × Matched (IsStopAt slice) (flat_map (stops_at_pair left right) slice) made =
+    let stops : (made : List Stop) × (c.add_stops.new.automaton.graph.stops ≡ c.add_starts.new.automaton.graph.stops ++ made)
+    × Matched (IsStopAt slice) (flat_map (stops_at_pair left right) slice) made =
     (given.0, given.1, subst (λ (rs : List PairStop). Matched (IsStopAt slice) rs given.0) rows given.2) in
-    assembled_made c.args.search.found.keys c.as_slice-found.result.now c.args.starts c.len-states.result c.args.search.ways.items c.args.left.now.stops.items c.args.right.now.stops.items
+    assembled_made c.args.reached.found.keys c.as_slice-found.result.now c.args.reached.starts c.len-states.result c.args.reached.ways.items c.args.left.now.stops.items c.args.right.now.stops.items
     (graph_of c.args.left.now).idle (graph_of c.args.right.now).idle c.in_ok-automaton.automaton.graph c.add_starts.new.automaton.graph c.add_stops.new.automaton.graph c.add_idle.new.automaton.graph
-    c.as_slice-found.ensures.keys (keys_apart _ (λ k. search rules) c.args.search.found.keys c.as_slice-found.ensures.unique) c.in_ok-automaton.ensures.ok.1 c.len-states.ensures.len
+    c.as_slice-found.ensures.keys (keys_apart _ (λ k. search rules) c.args.reached.found.keys c.as_slice-found.ensures.unique) c.in_ok-automaton.ensures.ok.1 c.len-states.ensures.len
     c.in_ok-add_starts.ensures.starts c.in_ok-add_starts.ensures.same stops c.in_ok-add_stops.ensures.same c.in_ok-add_idle.ensures.graph c.in_ok-add_idle.ensures.idles
