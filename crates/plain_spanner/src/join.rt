@@ -31,12 +31,16 @@ pub fn join(alloc: Global, left: &Table, right: &Table) -> Result<Table, OutOfMe
 {
     let shared = names_in_both(&left.names, &right.names);
     let places = places_by_key(alloc, right, &shared)?;
+    let keyed = KeyedPlaces {
+        key_names: shared,
+        places,
+    };
     let mut names = left.names.copy();
     add_names(&mut names, &right.names);
     prove!(names.len() <= MOST_VARIABLES);
     let mut rows = Vec::new(alloc);
     for row in &left.rows {
-        add_joins(&mut rows, &names, &left.names, row, right, &shared, &places)?;
+        add_joins(&mut rows, &names, &left.names, row, right, &keyed)?;
     }
     Ok(Table { names, rows })
 }
@@ -80,6 +84,13 @@ fn add_name(into: &mut VarSet, name: &Name)
     into.add(*name);
 }
 
+/// The places of a table's rows by their keys. The key of a row is its row over the key names.
+#[derive(Drop)]
+struct KeyedPlaces {
+    key_names: VarSet,
+    places: BTreeMap<Row, Vec<usize>>,
+}
+
 /// For each key the places of the rows that have it. The key of a row is its row over the key names.
 fn places_by_key(
     alloc: Global,
@@ -121,19 +132,18 @@ fn add_joins(
     left_names: &VarSet,
     row: &Row,
     right: &Table,
-    shared: &VarSet,
-    places: &BTreeMap<Row, Vec<usize>>,
+    keyed: &KeyedPlaces,
 ) -> Result<(), OutOfMemory>
     requires left { length row.now ≡ length left_names.now }
     requires right { AreRows right.now.names right.now.rows.items }
-    requires shared { (x : VarName) → Has shared.now x ↔ (Has left_names.now x × Has right.now.names x) }
-    requires places { (key : SpanRow) (p : ℕ) → IsSomeAnd (get row_cmp places.now key) (λ v. Has v.items p)
-        ↔ HasKeyAt right.now.names shared.now right.now.rows.items key p }
+    requires shared { (x : VarName) → Has keyed.now.key_names x ↔ (Has left_names.now x × Has right.now.names x) }
+    requires places { (key : SpanRow) (p : ℕ) → IsSomeAnd (get row_cmp keyed.now.places key) (λ v. Has v.items p)
+        ↔ HasKeyAt right.now.names keyed.now.key_names right.now.rows.items key p }
     ensures { OnOk result (Tells (Has rows.new.items) (λ r. Has rows.old.items r
         ⊎ JoinsRow names.now left_names.now right.now.names right.now.rows.items row.now r)) }
 {
-    let key = row_with(row, left_names, shared);
-    let Some(found) = places.get(&key) else {
+    let key = row_with(row, left_names, &keyed.key_names);
+    let Some(found) = keyed.places.get(&key) else {
         return Ok(());
     };
     add_joined(rows, names, left_names, row, right, found)?;

@@ -17,9 +17,12 @@ add_joined-requires-clause-within c = λ p h.
 
 pub returns-in_default : goal.returns-in_default
 returns-in_default c =
-    tells_unchanged (Has c.args.rows.now.items) (JoinsRow c.args.names.now c.args.left_names.now c.args.right.now.names c.args.right.now.rows.items c.args.row.now)
-    (joins_nothing c.args.names.now c.args.left_names.now c.args.right.now.names c.args.shared.now c.args.right.now.rows.items c.args.row.now c.requires.shared (λ p place.
-    let key = subst (λ (k : SpanRow). HasKeyAt c.args.right.now.names c.args.shared.now c.args.right.now.rows.items k p) (sym c.row_with-key.ensures) place in
+    let W = c.args.right.now.names in
+    let rights = c.args.right.now.rows.items in
+    let shared = c.args.keyed.now.key_names in
+    tells_unchanged (Has c.args.rows.now.items) (JoinsRow c.args.names.now c.args.left_names.now W rights c.args.row.now)
+    (joins_nothing c.args.names.now c.args.left_names.now W shared rights c.args.row.now c.requires.shared (λ p place.
+    let key = subst (λ (k : SpanRow). HasKeyAt W shared rights k p) (sym c.row_with-key.ensures) place in
     let there = (c.requires.places c.row_with-key.result p).1 key in
     subst (λ (o : Option (Vec ℕ Global)). IsSomeAnd o (λ v. Has v.items p)) (sym c.in_default.ensures.value) there))
 
@@ -30,10 +33,15 @@ returns c =
     let W = c.args.right.now.names in
     let rights = c.args.right.now.rows.items in
     let a = c.args.row.now in
-    let shared = c.args.shared.now in
+    let shared = c.args.keyed.now.key_names in
     let places = c.in-Some.found.now.items in
+    let key = c.row_with-key.result in
+    let before = Has c.args.rows.now.items in
+    let after = Has c.add_joined.new.rows.items in
     let found : (p : ℕ) → Has places p ↔ HasKeyAt W shared rights (row_over V shared a) p = λ p.
     subst (λ (k : SpanRow). Has places p ↔ HasKeyAt W shared rights k p) c.row_with-key.ensures
-    (subst (λ (o : Option (Vec ℕ Global)). IsSomeAnd o (λ v. Has v.items p) ↔ HasKeyAt W shared rights c.row_with-key.result p) (sym c.in-Some.ensures.value) (c.requires.places c.row_with-key.result p)) in
-    let added = subst (λ (xs : List ℕ). Tells (Has c.add_joined.new.rows.items) (λ r. Has c.args.rows.now.items r ⊎ FromSome (JoinsWith names V W a rights) xs r)) c.deref.ensures.value c.in_ok-add_joined.ensures in
-    tells_or (Has c.add_joined.new.rows.items) (Has c.args.rows.now.items) (FromSome (JoinsWith names V W a rights) places) (JoinsRow names V W rights a) added (joins_found names V W shared rights a places c.requires.shared found)
+    (subst (λ (o : Option (Vec ℕ Global)). IsSomeAnd o (λ v. Has v.items p) ↔ HasKeyAt W shared rights key p) (sym c.in-Some.ensures.value)
+    (c.requires.places key p)) in
+    let added = subst (λ (xs : List ℕ). Tells after (λ r. before r ⊎ FromSome (JoinsWith names V W a rights) xs r)) c.deref.ensures.value c.in_ok-add_joined.ensures in
+    tells_or after before (FromSome (JoinsWith names V W a rights) places) (JoinsRow names V W rights a) added
+    (joins_found names V W shared rights a places c.requires.shared found)
