@@ -26,11 +26,12 @@ pub rest_is_whole : (lists : Lists) (v : ℕ) (P : Positions) → waiting_rows l
 rest_is_whole lists v P =
     waited_rows lists.store v 0 P lists.first [] ∙ (append-nil (map (row_under v 0 P) (rows lists.store lists.first)) ∙ any_positions v P no_positions (rows lists.store lists.first))
 
-pub begins : (lists : Lists) (v : ℕ) (spans : SpanRow) (positions : List ℕ) → ((P : Positions) → take v spans ≡ row_of v 0 P) → v ≤ MOST_VARIABLES → AreLists lists → ((w : Word) → Has (rows lists.store lists.first) w → IsWordOfRow v w) → IsEnumerating lists v (waited 0 lists.first []) spans 0 positions
-begins lists v spans positions read few sound words = record {
+pub begins : (lists : Lists) (v m : ℕ) (spans : SpanRow) (positions : List ℕ) → take v spans ≡ row_of v m (positions_of positions) → v ≤ MOST_VARIABLES → AreLists lists
+    → ((w : Word) → Has (rows lists.store lists.first) w → IsWordOfRow v w) → IsEnumerating lists v (waited 0 lists.first []) spans m positions
+begins lists v m spans positions read few sound words = record {
   few = few;
   sound = sound;
   words = words;
-  row = read (positions_of positions);
+  row = read;
   stacked = waited_stacked lists.store v 0 lists.first [] tt (λ some. record { there = sound.there; some = some; fit = λ w h. fits_word v w (words w h) });
 }

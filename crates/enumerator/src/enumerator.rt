@@ -6,7 +6,7 @@ ghost use Rattle.node_arena.specs.Words.{Word};
 ghost use Rattle.node_arena.specs.Rows.{rows};
 ghost use Rattle.enumerator.specs.Enumeration.{AreInBlockOrder, AreRowsOf, IsRestAfter, IsWordOfRow};
 
-use crate::positions::{MOST_MARKERS, ReadRow, absent_spans, read_spans, row_of};
+use crate::positions::{MOST_MARKERS, ReadRow, read_spans, row_of};
 use crate::seeking::seek_row;
 use crate::stack::Stack;
 use crate::walking::{next_row, wait};
@@ -62,16 +62,16 @@ impl Enumerator {
         lists.are_lists();
         let mut stack = Stack::new();
         wait(&mut stack, Marks::none(), lists.first());
-        let positions = [0; MOST_MARKERS];
-        let spans = absent_spans(v, &positions);
+        let mut current = ReadRow {
+            settled: Marks::none(),
+            positions: [0; MOST_MARKERS],
+            spans: [None; MOST_VARIABLES],
+        };
+        read_spans(v, current.settled, &current.positions, &mut current.spans);
         Enumerator {
             lists,
             variables: v,
-            current: ReadRow {
-                settled: Marks::none(),
-                positions,
-                spans,
-            },
+            current,
             stack,
         }
     }
