@@ -13,7 +13,7 @@ put_taken-requires c = λ t b k. c.loop-state.invariant.known t b (c.in_ok-make_
 
 pub loop-state-preserved : goal.loop-state-preserved
 loop-state-preserved c =
-    let f = ways_of c.args.rights.now c.args.marks in
+    let f = ways_of c.args.right.now.ways.now c.args.marks in
     let members = c.args.members.now in
     let xs = c.loop-state.taken.items in
     let i = c.loop-state.state-index in
@@ -35,4 +35,5 @@ pub returns-clause-ways : goal.returns-clause-ways
 returns-clause-ways c =
     let members = c.args.members.now in
     let at : c.loop-state.state-index ≡ length members = omega (arith, c.loop-state-test.false, c.loop-state.auto.state-index-end) in
-    subst (λ us. LeadAlike c.loop-state.taken.items (flat_map (ways_of c.args.rights.now c.args.marks) us)) (ap (λ k. take k members) at ∙ take-length members) c.loop-state.invariant.ways
+    let f = ways_of c.args.right.now.ways.now c.args.marks in
+    subst (λ us. LeadAlike c.loop-state.taken.items (flat_map f us)) (ap (λ k. take k members) at ∙ take-length members) c.loop-state.invariant.ways
