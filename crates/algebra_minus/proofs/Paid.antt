@@ -12,11 +12,11 @@ use Rattle.span_core.specs.Lists.{AreDistinct}
 use Rattle.span_core.proofs.ByteSetLaws.{same_bytes}
 use Rattle.marked_automaton.specs.declared.way.Way.{Way}
 use Rattle.marked_automaton.specs.Automaton.{Automaton, ByteClass, HasByte}
-use Rattle.algebra.specs.Operations.{has_some, is_some_list}
+use Rattle.algebra.specs.Operations.{is_some_list}
 use Rattle.algebra.proofs.Bytes.{some_has}
 use Rattle.algebra_minus.specs.declared.search.Pair.{Pair}
 use Rattle.algebra_minus.specs.Found.{AreMade, IsFound}
-use Rattle.algebra_minus.specs.Steps.{HasAtMostWays, IsPaid, IsPaidOnce, partition_steps}
+use Rattle.algebra_minus.specs.Steps.{IsPaid, IsPaidOnce, partition_steps}
 use Rattle.algebra_minus.proofs.Searching.{has_ways}
 
 -- a set that is not empty has some byte

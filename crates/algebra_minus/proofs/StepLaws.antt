@@ -1,12 +1,10 @@
 -- How many steps a difference takes.
-use Rattle.std.proofs.Common.{◌≡◌, ℕ, ◌+◌, ◌*◌, ◌≤◌, ◌⊎◌, List, [], length, inl, inr, sym, ap, subst, arith, ◌∙◌}
+use Rattle.std.proofs.Common.{◌≡◌, ℕ, ◌+◌, ◌*◌, ◌≤◌, ◌⊎◌, List, [], length, inl, inr, sym, subst, arith}
 use Rattle.std.proofs.lemmas.Nat.{mul-le}
 use Rattle.span_core.specs.Lists.{AreDistinct}
 use Rattle.marked_automaton.specs.declared.way.Way.{Way}
 use Rattle.marked_automaton.specs.declared.fault.SizeFault.{SizeFault}
-use Rattle.marked_automaton.specs.declared.fault.SizeFault.TheVariants.{States, Ways, OutOfMemory}
-use Rattle.marked_automaton.specs.Automaton.{Automaton, IsWhole, Marked}
-use Rattle.marked_automaton.specs.Faults.{IsSizeFaultWithin}
+use Rattle.marked_automaton.specs.Automaton.{Automaton, Marked}
 use Rattle.marked_automaton.proofs.Sizes.{reduct_is_no_larger}
 use Rattle.algebra.specs.Joining.{IsGroupedOf}
 use Rattle.algebra_minus.specs.declared.fault.MinusFault.{MinusFault}

@@ -1,6 +1,4 @@
-use Rattle.std.proofs.Common.{◌≡◌, ℕ, ◌≤◌}
 use Rattle.algebra_minus.specs.DifferenceOf.{difference_of}
-use Rattle.algebra_minus.specs.Steps.{most_steps}
 use Rattle.algebra_minus.proofs.DifferenceMade.{difference_made}
 use Rattle.algebra_minus.proofs.Grouped.{accepts_by, reduces_by}
 use Rattle.algebra_minus.proofs.StepLaws.{steps_of_reducts, told_refusal, told_within}
