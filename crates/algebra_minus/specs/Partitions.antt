@@ -8,6 +8,8 @@ use Rattle.numbered_lists.specs.Numbered.{IsLongerBy, set_at}
 use Rattle.algebra_minus.specs.declared.pieces.Piece.{Piece}
 use Rattle.algebra_minus.specs.declared.partitions.Part.{Part}
 use Rattle.algebra_minus.specs.declared.partitions.Key.{Key}
+use Rattle.algebra_minus.specs.declared.partitions.Partitions.{Partitions}
+use Rattle.algebra_minus.specs.declared.rows.RightSide.{RightSide}
 use Rattle.algebra_minus.specs.Difference.{GoesTo}
 
 -- no two sets are the same, and each is its strictly ascending list
@@ -53,3 +55,10 @@ pub record ArePartitions (B : Automaton) (bytes : ByteClass) (sets : List (List 
   pub long : length partitions ≡ length keys
   pub known : (k : ℕ) (key : Key) → slice_get keys k ≡ Some key → (key.set < length sets)
       × ((partition : Vec Part) × (slice_get partitions k ≡ Some partition) × IsPartitionOf B bytes (set_at sets key.set) key.marks sets partition.items)
+
+-- over the right side
+abbrev pub IsPartitionFor : RightSide → List ℕ → ℕ → List (List ℕ) → List Part → Type 0
+IsPartitionFor right S m sets partition = IsPartitionOf right.automaton.now.graph right.bytes S m sets partition
+
+abbrev pub ArePartitionsFor : RightSide → List (List ℕ) → Partitions → Type 0
+ArePartitionsFor right sets known = ArePartitions right.automaton.now.graph right.bytes sets known.keys.keys known.parts.items
