@@ -16,11 +16,15 @@ use Rattle.algebra_minus.specs.Difference.{GoesTo}
 abbrev pub AreSets : List (List ℕ) → Type 0
 AreSets sets = AreDistinct sets × ((s : List ℕ) → Has sets s → IsInOrder ◌<◌ s)
 
+-- the byte of the part r is one of an old part with the same number, or it is added
+abbrev pub ComesFrom : List Part → ByteClass → ℕ → Part → ℕ → Type 0
+ComesFrom old bytes to r c = ((q : Part) × Has old q × (q.to ≡ r.to) × HasByte q.bytes c) ⊎ ((r.to ≡ to) × HasByte bytes c)
+
 -- bytes are added that lead to this number
 pub record IsPutInto (old : List Part) (bytes : ByteClass) (to : ℕ) (new : List Part) : Type 0 where
   pub kept : (q : Part) (c : ℕ) → Has old q → HasByte q.bytes c → (r : Part) × Has new r × HasByte r.bytes c
   pub put : (c : ℕ) → HasByte bytes c → (r : Part) × Has new r × HasByte r.bytes c
-  pub only : (r : Part) (c : ℕ) → Has new r → HasByte r.bytes c → ((q : Part) × Has old q × (q.to ≡ r.to) × HasByte q.bytes c) ⊎ ((r.to ≡ to) × HasByte bytes c)
+  pub only : (r : Part) (c : ℕ) → Has new r → HasByte r.bytes c → ComesFrom old bytes to r c
   pub tos : (r : Part) → Has new r → ((q : Part) × Has old q × (q.to ≡ r.to)) ⊎ (r.to ≡ to)
   pub apart : AreDistinct (map (λ (r : Part). r.to) old) → AreDistinct (map (λ (r : Part). r.to) new)
 

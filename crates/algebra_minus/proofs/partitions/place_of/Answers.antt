@@ -10,7 +10,8 @@ returns-then-part-to-clause-some c =
     let partition = c.args.partition.now in
     let part = c.part-item.result in
     let i = c.loop-part.part-index in
-    (part, subst (λ k. slice_get partition k ≡ Some part) (sym c.loop-part.invariant.0) (slice_get_read partition (length partition) i part refl c.loop-part-test.true c.part-item.is), c.if-part-to.true)
+    let read = slice_get_read partition (length partition) i part refl c.loop-part-test.true c.part-item.is in
+    (part, subst (λ k. slice_get partition k ≡ Some part) (sym c.loop-part.invariant.0) read, c.if-part-to.true)
 
 pub loop-part-preserved : goal.loop-part-preserved
 loop-part-preserved c =

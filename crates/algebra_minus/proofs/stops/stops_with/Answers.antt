@@ -9,6 +9,6 @@ pub returns : goal.returns
 returns c =
     let m = c.args.marks in
     c.split_at-2.ensures.front
-    ∙ row_between stop_marks c.args.stops.now c.split_at.result.1.now m c.partition_point-low.result c.partition_point-count.result c.requires c.split_at.ensures.back c.split_at.ensures.back_len c.partition_point-count.ensures.bound
+    ∙ row_between stop_marks _ _ m _ _ c.requires c.split_at.ensures.back c.split_at.ensures.back_len c.partition_point-count.ensures.bound
     (λ parted. IsPartitionPoint-from_clause (λ (x : Stop). ltb (stop_marks x) m) _ _ c.partition_point-low.ensures.partitioned parted (λ a r q k. search rules))
     (λ parted. IsPartitionPoint-from_clause (λ (x : Stop). leb (stop_marks x) m) _ _ c.partition_point-count.ensures.partitioned parted (λ a r q k. search rules))
