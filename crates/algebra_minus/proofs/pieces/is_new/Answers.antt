@@ -21,5 +21,5 @@ returns-clause-some c =
     let at : slice_get known to ≡ Some bytes = get_at known to bytes within ∙ ap Some (sym c.index.ensures) in
     λ t b h. elim (known_put known to bytes c.union.result c.args.way.now.bytes t b at c.union.ensures h) [
       | inl i ↦ inl i
-      | inr j ↦ inr (refl, j.0, j.1)
+      | inr j ↦ inr (refl, j)
     ]

@@ -22,7 +22,7 @@ returns-clause-known c = λ t b k.
     let z = c.args.way.now in
     let all = elim (c.is_new.ensures.some t b k) as (λ _. SomeWayLeads (xs ++ z ∷ []) b t) [
       | inl i ↦ let w = c.requires t b i in (w.0, Has-append_left xs (z ∷ []) w.0 w.1, w.2, w.3)
-      | inr j ↦ (z, Has-append_right xs (z ∷ []) z (inl refl), j.1, j.2)
+      | inr j ↦ (z, Has-append_right xs (z ∷ []) z (inl refl), j.1.0, j.1.1)
     ] in
     subst (λ (ws : List Way). SomeWayLeads ws b t) (sym c.in_ok-push.ensures.items) all
 
