@@ -60,7 +60,7 @@ pub record ArePartitions (B : Automaton) (bytes : ByteClass) (sets : List (List 
   pub known : (k : ℕ) (key : Key) → slice_get keys k ≡ Some key → (key.set < length sets)
       × ((partition : Vec Part) × (slice_get partitions k ≡ Some partition) × IsPartitionOf B bytes (set_at sets key.set) key.marks sets partition.items)
 
--- over the right side
+-- the same over the bytes of the right side
 abbrev pub IsPartitionFor : RightSide → List ℕ → ℕ → List (List ℕ) → List Part → Type 0
 IsPartitionFor right S m sets partition = IsPartitionOf right.automaton.now.graph right.bytes S m sets partition
 
