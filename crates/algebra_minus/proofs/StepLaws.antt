@@ -13,7 +13,7 @@ use Rattle.algebra_minus.specs.declared.search.Pair.{Pair}
 use Rattle.algebra_minus.specs.Counts.{IsMinusFault}
 use Rattle.algebra_minus.specs.Difference.{IsDifference}
 use Rattle.algebra_minus.specs.DifferenceOf.{difference_of}
-use Rattle.algebra_minus.specs.Found.{IsEnd}
+use Rattle.algebra_minus.specs.Found.{AreAllFollowed}
 use Rattle.algebra_minus.specs.Steps.{HasAtMostPairs, HasAtMostWays, IsMinusRefusal, IsPaid, IsPaidOnce, IsRefusedWithin, end_steps, most_steps, partition_steps, steps_with}
 use Rattle.algebra_minus.proofs.Alike.{ways_have_bytes}
 use Rattle.algebra_minus.proofs.Counts.{counts_are_no_more}
@@ -31,7 +31,7 @@ search_refused A B before after once states ways few = sum (partition_steps B) (
 
 -- where all is found, and the ends are tried
 pub search_done : (A B : Automaton) (sets : List (List ℕ)) (keys : List Pair) (made : List Way) (before middle after : ℕ) → IsPaid B before [] middle made → AreDistinct keys →
-    IsEnd A B sets keys made → (x : Way) → middle ≤ after + length keys * end_steps A B → (states ways : ℕ) → HasAtMostPairs A B states → HasAtMostWays A B ways →
+    AreAllFollowed A B sets keys made → (x : Way) → middle ≤ after + length keys * end_steps A B → (states ways : ℕ) → HasAtMostPairs A B states → HasAtMostWays A B ways →
     before ≤ after + steps_with A B states ways
 search_done A B sets keys made before middle after paid apart end x spent states ways few_pairs few_ways =
     sum (partition_steps B) (end_steps A B) (length made) (length keys) paid spent

@@ -10,7 +10,7 @@ use Rattle.algebra_minus.specs.declared.partitions.Part.{Part}
 use Rattle.algebra_minus.specs.declared.partitions.Key.{Key}
 use Rattle.algebra_minus.specs.declared.partitions.Partitions.{Partitions}
 use Rattle.algebra_minus.specs.declared.rows.RightSide.{RightSide}
-use Rattle.algebra_minus.specs.Difference.{GoesTo}
+use Rattle.algebra_minus.specs.Difference.{SetGoesTo}
 
 -- no two sets are the same, and each is its strictly ascending list
 abbrev pub AreSets : List (List ℕ) → Type 0
@@ -50,7 +50,7 @@ pub record IsPartitioning (pieces waiting : List Piece) (sets1 sets2 : List (Lis
 -- each of the bytes is in a part, the bytes of a part lead to its set, and no two parts have the same set
 pub record IsPartitionOf (B : Automaton) (bytes : ByteClass) (S : List ℕ) (m : ℕ) (sets : List (List ℕ)) (partition : List Part) : Type 0 where
   pub cover : (c : ℕ) → HasByte bytes c → (r : Part) × Has partition r × HasByte r.bytes c
-  pub goes : (r : Part) (c : ℕ) → Has partition r → HasByte r.bytes c → GoesTo B S c m (set_at sets r.to)
+  pub goes : (r : Part) (c : ℕ) → Has partition r → HasByte r.bytes c → SetGoesTo B S c m (set_at sets r.to)
   pub within : (r : Part) → Has partition r → r.to < length sets
   pub apart : AreDistinct (map (λ (r : Part). r.to) partition)
 
