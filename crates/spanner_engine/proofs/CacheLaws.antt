@@ -1,24 +1,15 @@
 -- What is kept from document to document.
-use Rattle.std.proofs.Common.{◌≡◌, ℕ, ◌+◌, ◌≤◌, Bool, List, Option, None, Some, ap, arith, subst, sym, ◌∙◌}
+use Rattle.std.proofs.Common.{◌≡◌, ℕ, ◌+◌, ◌≤◌, Bool, List, Option, None, Some, ap, arith, subst}
 use Rattle.std.specs.Option.{IfSome}
 use Rattle.marked_automaton.specs.Automaton.{Automaton}
-use Rattle.one_pass.specs.Builds.{build}
 use Rattle.one_pass.specs.Readings.{IsKeptOf}
 use Rattle.spanner_engine.specs.Caching.{IsCacheOf, rebuild}
 use Rattle.spanner_engine.specs.declared.cache.Cache.{Cache}
 use Rattle.one_pass.specs.declared.known_table.KeptTable.{KeptTable}
 
--- a cache that keeps nothing goes with each automaton
-pub empty_goes : (A : Automaton) (cache : Cache) → cache.kept ≡ None → IsCacheOf A cache
-empty_goes A cache is = subst (λ (k : Option KeptTable). IfSome k (IsKeptOf A)) (sym is) tt
-
 -- what is taken out is of the automaton
 pub kept_of : (A : Automaton) (cache : Cache) (kept : KeptTable) → IsCacheOf A cache → cache.kept ≡ Some kept → IsKeptOf A kept
 kept_of A cache kept goes is = subst (λ (k : Option KeptTable). IfSome k (IsKeptOf A)) is goes
-
--- and what it may cost is one more reading
-pub rebuilt : (o : Option KeptTable) (kept : KeptTable) (A : Automaton) (d : List ℕ) (K : ℕ → Bool) → o ≡ Some kept → rebuild o A d K ≡ build A d K
-rebuilt o kept A d K is = ap (λ (k : Option KeptTable). rebuild k A d K) is
 
 -- nothing, where none was kept
 pub alone : (o : Option KeptTable) (A : Automaton) (d : List ℕ) (K : ℕ → Bool) (old new s : ℕ) → o ≡ None → new ≤ old + rebuild o A d K + s → new ≤ old + s

@@ -80,8 +80,8 @@ impl Cache {
     /// more. Gives the lists of the document's words.
     fn keep(&mut self, listed: Listed<'_>) -> RowLists
         requires empty { self.old.kept ≡ None }
-        ensures cache { IsCacheOf listed.table.graph self.new }
-        ensures lists { result ≡ listed.lists }
+        ensures cache { IsCacheOf listed.entry.table.graph self.new }
+        ensures lists { result ≡ listed.entry.lists }
     {
         let Listed { lists, table } = listed;
         if table.may_grow(self.most) {

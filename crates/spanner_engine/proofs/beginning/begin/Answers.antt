@@ -1,4 +1,4 @@
-use Rattle.std.proofs.Common.{◌≡◌, ◌+◌, ◌≤◌, ℕ, Bool, IfOk, IfErr, OnOk, subst}
+use Rattle.std.proofs.Common.{◌+◌, ◌≤◌, ℕ, Bool, IfOk, IfErr, OnOk, subst}
 use Rattle.std.specs.Option.{option_copied}
 use Rattle.spanner_model.specs.declared.query.Query.{Query}
 use Rattle.spanner_model.specs.ExprView.{query_of}

@@ -1,14 +1,16 @@
+use Rattle.std.proofs.Common.{subst, sym}
 use Rattle.std.specs.Option.{option_copied}
 use Rattle.spanner_model.specs.ExprView.{query_of}
 use Rattle.spanner_engine.specs.Begun.{row_kept}
+use Rattle.spanner_engine.specs.Left.{AreLeft}
 use Rattle.spanner_engine.proofs.ReadAt.{answers_left, parts_within, read_limit, rows_listed, steps_read, steps_sought, table_cause}
 use Rattle.spanner_engine.proofs.beginning.begin_with.Goals as goal
 
 pub lists-requires-clause-within : goal.lists-requires-clause-within
 lists-requires-clause-within g c = parts_within c.args.options.filter (query_of c.args.query.now) c.args.doc.now c.in-Ok.positions c.in-Ok.ensures.read
 
-pub new-requires-clause-rows : goal.new-requires-clause-rows
-new-requires-clause-rows g c =
+pub new-rows-requires-clause-rows : goal.new-rows-requires-clause-rows
+new-rows-requires-clause-rows g c =
     rows_listed c.args.options.filter (query_of c.args.query.now) c.args.doc.now c.in-Ok.positions c.in-Ok.ensures.read
     c.args.automaton.now c.requires.compiled c.is_marked.ensures c.type_inv.doc _ c.in-Ok-lists.ensures.words c.len.result c.vars.result.now c.len.ensures.value c.vars.ensures
 
@@ -30,9 +32,10 @@ returns-in-Err-OutOfMemory-lists-clause-steps g c =
 
 pub returns-clause-left : goal.returns-clause-left
 returns-clause-left g c =
-    answers_left c.args.options.filter (query_of c.args.query.now) c.args.doc.now c.in-Ok.positions c.in-Ok.ensures.read
+    subst (λ rest. AreLeft (query_of c.args.query.now) c.args.doc.now c.args.automaton.now.names (row_kept (option_copied c.args.after)) rest) (sym c.over.ensures.rest)
+    (answers_left c.args.options.filter (query_of c.args.query.now) c.args.doc.now c.in-Ok.positions c.in-Ok.ensures.read
     c.args.automaton.now c.requires.compiled c.is_marked.ensures c.type_inv.doc _ c.in-Ok-lists.ensures.words c.len.result c.vars.result.now c.len.ensures.value c.vars.ensures
-    c.new.result.whole _ (row_kept (option_copied c.args.after)) c.new.ensures.whole c.new.ensures.order c.from_row.ensures.rest
+    c.new-rows.result.whole _ (row_kept (option_copied c.args.after)) c.new-rows.ensures.whole c.new-rows.ensures.order c.from_row.ensures.rest)
 
 pub returns-clause-weighs : goal.returns-clause-weighs
 returns-clause-weighs g c =
@@ -45,5 +48,5 @@ returns-clause-atoms g c = c.in-Ok.ensures.within
 pub returns-clause-steps : goal.returns-clause-steps
 returns-clause-steps g c =
     steps_sought c.args.options.filter (query_of c.args.query.now) c.args.doc.now c.in-Ok.positions c.in-Ok.ensures.read
-    c.args.automaton.now c.requires.compiled c.is_marked.ensures c.args.cache.now.kept c.args.steps.now c.positions_read.new.steps c.lists.new.steps c.from_row.new.steps c.new.result.cells _ (row_kept (option_copied c.args.after))
-    c.positions_read.ensures.steps c.lists.ensures.steps c.new.ensures.cells c.in-Ok-lists.ensures.cells c.from_row.ensures.steps
+    c.args.automaton.now c.requires.compiled c.is_marked.ensures c.args.cache.now.kept c.args.steps.now c.positions_read.new.steps c.lists.new.steps c.from_row.new.steps c.new-rows.result.cells _ (row_kept (option_copied c.args.after))
+    c.positions_read.ensures.steps c.lists.ensures.steps c.new-rows.ensures.cells c.in-Ok-lists.ensures.cells c.from_row.ensures.steps
