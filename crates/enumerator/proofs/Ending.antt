@@ -1,5 +1,6 @@
 -- A row with another end of one variable.
-use Rattle.std.proofs.Common.{◌≡◌, ℕ, ◌-◌, ◌*◌, ◌^◌, ◌<◌, ◌≤◌, Bool, true, false, ◌&&◌, nat_le, List, length, get_or, set, take, [], ◌∷◌, zero, suc, Option, Some, None, inl, inr, refl, sym, ap, ap₂, ◌∙◌, arith, eq-eqb, get_or-set_same, get_or-set_other, length-set}
+use Rattle.std.proofs.Common.{◌≡◌, ℕ, ◌-◌, ◌*◌, ◌^◌, ◌<◌, ◌≤◌, Bool, true, false, ◌&&◌, nat_le, List, length, get_or, set, take, [], ◌∷◌, zero, suc, Option, Some, None, inl, inr}
+use Rattle.std.proofs.Common.{refl, sym, ap, ap₂, ◌∙◌, arith, eq-eqb, get_or-set_same, get_or-set_other, length-set}
 use Rattle.std.specs.Prelude.{◌==◌, if◌then◌else◌}
 use Rattle.std.specs.Int.{bit_at}
 use Rattle.std.proofs.lemmas.Bool.{cases_eq, cond-true, cond-false}
@@ -63,7 +64,8 @@ module _ (v m k at : ℕ) (P : Positions) (l : k < v) where
   span_ended s b was start end =
       let w = was_given (has m (opening_bit v k)) (has m (closing_bit v k)) (P (opening_bit v k)) (P (closing_bit v k)) s was in
       let other : opening_bit v k ≡ closing_bit v k → ⊥ = λ e. omega (arith, e) in
-      let from : ended (opening_bit v k) ≡ b.start = put_other P (closing_bit v k) at (opening_bit v k) other ∙ starts (P (opening_bit v k)) (P (closing_bit v k)) (nat_le (P (opening_bit v k)) (P (closing_bit v k))) refl s w.1.1 ∙ sym start in
+      let from : ended (opening_bit v k) ≡ b.start =
+      put_other P (closing_bit v k) at (opening_bit v k) other ∙ starts (P (opening_bit v k)) (P (closing_bit v k)) (nat_le (P (opening_bit v k)) (P (closing_bit v k))) refl s w.1.1 ∙ sym start in
       given v m ended k w.0 w.1.0 ∙ span_between_is b (ended (opening_bit v k)) (ended (closing_bit v k)) from (put_own P (closing_bit v k) at ∙ sym end)
 
   -- the others

@@ -66,7 +66,8 @@ module _ (store : List NamedRow) (made : AreMade store) (v m k : ℕ) (r : Named
     cell_below fs below = waited_below store v m r.marks r.next fs cell_new below next_waits
 
     -- the rows of the cell are those of its child, with the block's markers put, and those of its next
-    pub cell_rows_under : (P : Positions) → map (row_under v m P) (rows store (Row k)) ≡ map (row_under v (bit_or m r.marks) (put P block)) (rows store r.child) ++ map (row_under v m P) (rows store r.next)
+    pub cell_rows_under : (P : Positions) → map (row_under v m P) (rows store (Row k))
+        ≡ map (row_under v (bit_or m r.marks) (put P block)) (rows store r.child) ++ map (row_under v m P) (rows store r.next)
     cell_rows_under P =
         ap (map (row_under v m P)) cell_rows
         ∙ (map-append (row_under v m P) (map (λ (w : Word). block ∷ w) (rows store r.child)) (rows store r.next)
@@ -107,7 +108,8 @@ in_row_few store made v m k r is P fs all most now h =
     omega arith
 
 -- at the end of a row
-pub in_row_ends : (store : List NamedRow) (v : ℕ) (P : Positions) (m : ℕ) (e : Entry) (fs : List Waiting) (all : List SpanRow) (most now : ℕ) → ((k : ℕ) → e ≡ Row k → ⊥) → IsInRow store v P m e fs all most now
+pub in_row_ends : (store : List NamedRow) (v : ℕ) (P : Positions) (m : ℕ) (e : Entry) (fs : List Waiting) (all : List SpanRow) (most now : ℕ) → ((k : ℕ) → e ≡ Row k → ⊥)
+    → IsInRow store v P m e fs all most now
     → (all ≡ row_of v m P ∷ waiting_rows store v P fs) × AreStacked store v fs × (now ≤ most)
 in_row_ends store v P m Nothing fs all most now no_row h = absurd (h.waits.some refl)
 in_row_ends store v P m Done fs all most now no_row h =
@@ -116,7 +118,8 @@ in_row_ends store v P m (Row k) fs all most now no_row h = absurd (no_row k refl
 
 -- ---- a cell whose child is the empty row
 
-module _ (store : List NamedRow) (made : AreMade store) (v m k : ℕ) (r : NamedRow) (is : row_at store k ≡ Some r) (P : Positions) (fs : List Waiting) (waits : IsWaiting store v (frame m (Row k))) (below : AreBelow store v m fs) where
+module _ (store : List NamedRow) (made : AreMade store) (v m k : ℕ) (r : NamedRow) (is : row_at store k ≡ Some r) (P : Positions) (fs : List Waiting)
+    (waits : IsWaiting store v (frame m (Row k))) (below : AreBelow store v m fs) where
   abbrev all_rows : List SpanRow
   all_rows = rows_under store v P (frame m (Row k)) ++ waiting_rows store v P fs
 
@@ -124,7 +127,8 @@ module _ (store : List NamedRow) (made : AreMade store) (v m k : ℕ) (r : Named
   pub cell_begun : (before : ℕ) → IsInRow store v (put P (r.at, r.marks)) (bit_or m r.marks) r.child (waited m r.next fs) all_rows (before + left v m) (before + 1)
   cell_begun before = in_row_step store made v m k r is P fs all_rows (before + left v m) before (in_row_begins store v P (frame m (Row k)) fs before waits below)
 
-  pub leaf_rows : r.child ≡ Done → (all_rows ≡ row_of v (bit_or m r.marks) (put P (r.at, r.marks)) ∷ waiting_rows store v (put P (r.at, r.marks)) (waited m r.next fs)) × AreStacked store v (waited m r.next fs)
+  pub leaf_rows : r.child ≡ Done → (all_rows ≡ row_of v (bit_or m r.marks) (put P (r.at, r.marks)) ∷ waiting_rows store v (put P (r.at, r.marks)) (waited m r.next fs))
+      × AreStacked store v (waited m r.next fs)
   leaf_rows done =
       let t = in_row_ends store v (put P (r.at, r.marks)) (bit_or m r.marks) Done (waited m r.next fs) all_rows (0 + left v m) (0 + 1) (λ j e. cc)
       (subst (λ (e : Entry). IsInRow store v (put P (r.at, r.marks)) (bit_or m r.marks) e (waited m r.next fs) all_rows (0 + left v m) (0 + 1)) done (cell_begun 0)) in
@@ -157,12 +161,14 @@ module _ (store : List NamedRow) (v : ℕ) (P : Positions) (all fs : List Waitin
     top_few = in_row_few store made v f.settled k r is P fs _ _ _ (in_row_begins store v P (frame f.settled (Row k)) fs 0 now taken.1)
 
     -- a block, and the empty row behind it
-    pub top_leaf : r.child ≡ Done → (waiting_rows store v P all ≡ row_of v (bit_or f.settled r.marks) (put P (r.at, r.marks)) ∷ waiting_rows store v (put P (r.at, r.marks)) (waited f.settled r.next fs))
+    pub top_leaf : r.child ≡ Done
+        → (waiting_rows store v P all ≡ row_of v (bit_or f.settled r.marks) (put P (r.at, r.marks)) ∷ waiting_rows store v (put P (r.at, r.marks)) (waited f.settled r.next fs))
         × AreStacked store v (waited f.settled r.next fs)
     top_leaf done = let t = leaf_rows store made v f.settled k r is P fs now taken.1 done in (same_rows ∙ t.0, t.1)
 
     -- a block, and the rows behind it
-    pub top_child : waiting_rows store v P all ≡ rows_under store v (put P (r.at, r.marks)) (frame (bit_or f.settled r.marks) r.child) ++ waiting_rows store v (put P (r.at, r.marks)) (waited f.settled r.next fs)
+    pub top_child : waiting_rows store v P all
+        ≡ rows_under store v (put P (r.at, r.marks)) (frame (bit_or f.settled r.marks) r.child) ++ waiting_rows store v (put P (r.at, r.marks)) (waited f.settled r.next fs)
     top_child = same_rows ∙ child_rows store made v f.settled k r is P fs now taken.1
 
     pub top_waits : IsWaiting store v (frame (bit_or f.settled r.marks) r.child)
