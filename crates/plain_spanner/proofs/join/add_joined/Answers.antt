@@ -36,11 +36,13 @@ loop-place-preserved c =
     let l = c.requires.within p (Has-get_or c.args.places.now c.loop-place.place-index 0 c.loop-place-test.true) in
     let at : slice_get rights p ≡ Some b = slice_get-get_or rights p b l ∙ ap Some (sym c.index.ensures) in
     let R = JoinsWith c.args.names.now c.args.left_names.now c.args.right.now.names c.args.row.now rights in
-    let added = tells_pushed (R p) c.loop-place.rows.items c.both.result (λ r h. c.both.ensures ∙ joined_once c.args.names.now c.args.left_names.now c.args.right.now.names c.args.row.now rights p b r at h) (b, at, c.both.ensures) in
+    let added = tells_pushed (R p) c.loop-place.rows.items c.both.result
+    (λ r h. c.both.ensures ∙ joined_once c.args.names.now c.args.left_names.now c.args.right.now.names c.args.row.now rights p b r at h) (b, at, c.both.ensures) in
     from_more R (Has c.args.rows.now.items) (Has c.loop-place.rows.items) (Has c.push.new.self.items) c.args.places.now c.loop-place.place-index p 0 c.loop-place-test.true refl c.loop-place.invariant
     (subst (λ (xs : List SpanRow). Tells (Has xs) (λ r. Has c.loop-place.rows.items r ⊎ R p r)) (sym c.in_ok-push.ensures.items) added)
 
 pub returns : goal.returns
 returns c =
-    from_all (JoinsWith c.args.names.now c.args.left_names.now c.args.right.now.names c.args.row.now c.args.right.now.rows.items) (Has c.args.rows.now.items) (Has c.loop-place.rows.items) c.args.places.now c.loop-place.place-index
+    from_all (JoinsWith c.args.names.now c.args.left_names.now c.args.right.now.names c.args.row.now c.args.right.now.rows.items)
+    (Has c.args.rows.now.items) (Has c.loop-place.rows.items) c.args.places.now c.loop-place.place-index
     c.loop-place.auto.place-index-end c.loop-place-test.false c.loop-place.invariant

@@ -15,7 +15,8 @@ loop-k-init c = gathered_first (λ (y : VarName) (x : VarName). y ≡ x) Has nam
 
 pub loop-k-preserved : goal.loop-k-preserved
 loop-k-preserved c =
-    gathered_next (λ (y : VarName) (x : VarName). y ≡ x) Has names_in_turn c.args.names.now c.loop-k.k c.at.result.now c.args.into.now c.loop-k.into c.add_name.new.into c.at.ensures.value c.loop-k.invariant c.add_name.ensures
+    gathered_next (λ (y : VarName) (x : VarName). y ≡ x) Has names_in_turn c.args.names.now c.loop-k.k c.at.result.now c.args.into.now c.loop-k.into c.add_name.new.into
+    c.at.ensures.value c.loop-k.invariant c.add_name.ensures
 
 pub returns : goal.returns
 returns c =

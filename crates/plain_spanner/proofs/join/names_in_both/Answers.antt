@@ -12,7 +12,8 @@ use Rattle.plain_spanner.proofs.join.names_in_both.Goals as goal
 pub add_name-requires : goal.add_name-requires
 add_name-requires c =
     let left = c.args.left.now in
-    room_in left c.loop-k.shared c.at-name.result.now (omega (arith, c.len-k-end.ensures.few)) (Has-slice_get left c.loop-k.k c.at-name.result.now c.at-name.ensures.value) (λ x h. Has-take left c.loop-k.k x ((c.loop-k.invariant x).0 h).0)
+    room_in left c.loop-k.shared c.at-name.result.now (omega (arith, c.len-k-end.ensures.few)) (Has-slice_get left c.loop-k.k c.at-name.result.now c.at-name.ensures.value)
+    (λ x h. Has-take left c.loop-k.k x ((c.loop-k.invariant x).0 h).0)
 
 pub loop-k-init : goal.loop-k-init
 loop-k-init c = λ x. (λ h. absurd (subst (λ (ns : List VarName). Has ns x) c.empty-shared.ensures h), λ h. absurd h.0)

@@ -15,17 +15,22 @@ pub row_with-key-requires : goal.row_with-key-requires
 row_with-key-requires c =
     let rows = c.args.table.now.rows.items in
     let r = c.row-item.result in
-    let at : slice_get c.deref-row-items.result.now c.loop-place.place ≡ Some r = slice_get-get_or c.deref-row-items.result.now c.loop-place.place r c.loop-place-test.true ∙ ap Some (sym c.row-item.is) in
+    let at : slice_get c.deref-row-items.result.now c.loop-place.place ≡ Some r =
+    slice_get-get_or c.deref-row-items.result.now c.loop-place.place r c.loop-place-test.true ∙ ap Some (sym c.row-item.is) in
     c.requires r (Has-slice_get rows c.loop-place.place r (ap (λ (xs : List SpanRow). slice_get xs c.loop-place.place) (sym c.deref-row-items.ensures.value) ∙ at))
 
 pub loop-place-init : goal.loop-place-init
-loop-place-init c = λ q p. (λ h. absurd (subst (λ (es : List (SpanRow × Vec ℕ Global)). IsSomeAnd (lookup (is_at (row_cmp q)) es) (λ v. Has v.items p)) c.new-places.ensures.empty h), λ h. let l = h.0 in absurd (omega arith))
+loop-place-init c = λ q p. (
+  λ h. absurd (subst (λ (es : List (SpanRow × Vec ℕ Global)). IsSomeAnd (lookup (is_at (row_cmp q)) es) (λ v. Has v.items p)) c.new-places.ensures.empty h),
+  λ h. let l = h.0 in absurd (omega arith),
+)
 
 pub loop-place-preserved : goal.loop-place-preserved
 loop-place-preserved c =
     let rows = c.args.table.now.rows.items in
     let r = c.row-item.result in
-    let at : slice_get c.deref-row-items.result.now c.loop-place.place ≡ Some r = slice_get-get_or c.deref-row-items.result.now c.loop-place.place r c.loop-place-test.true ∙ ap Some (sym c.row-item.is) in
+    let at : slice_get c.deref-row-items.result.now c.loop-place.place ≡ Some r =
+    slice_get-get_or c.deref-row-items.result.now c.loop-place.place r c.loop-place-test.true ∙ ap Some (sym c.row-item.is) in
     let here = ap (λ (xs : List SpanRow). slice_get xs c.loop-place.place) (sym c.deref-row-items.ensures.value) ∙ at in
     places_of_more c.args.table.now.names c.args.key_names.now rows c.loop-place.place r c.row_with-key.result (λ q p. IsSomeAnd (get row_cmp c.loop-place.places q) (λ v. Has v.items p))
     (λ q p. IsSomeAnd (get row_cmp c.add_place.new.places q) (λ v. Has v.items p)) here c.row_with-key.ensures c.loop-place.invariant c.in_ok-add_place.ensures

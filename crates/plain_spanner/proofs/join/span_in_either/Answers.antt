@@ -8,4 +8,5 @@ returns-then-has_name c = c.span_in.ensures ∙ sym (merged_left c.args.left_nam
 
 pub returns-else-has_name : goal.returns-else-has_name
 returns-else-has_name c =
-    c.span_in-else-has_name.ensures ∙ sym (merged_outside c.args.left_names.now c.args.right_names.now c.args.left.now c.args.right.now c.args.name.now (λ h. false≢true (sym c.if-has_name.false ∙ c.has_name.ensures.1 h)))
+    c.span_in-else-has_name.ensures
+    ∙ sym (merged_outside c.args.left_names.now c.args.right_names.now c.args.left.now c.args.right.now c.args.name.now (λ h. false≢true (sym c.if-has_name.false ∙ c.has_name.ensures.1 h)))
