@@ -9,7 +9,8 @@ loop-state-preserved c =
     let ok = c.in_ok-add_start.ensures.ok in
     record {
       names = c.add_start.ensures.names ∙ inv.names;
-      starts = one_start_more c.args.automaton.now.graph.starts c.loop-state.automaton.graph.starts c.add_start.new.self.graph.starts c.loop-state.state inv.starts (ap (λ (g : Automaton). g.starts) ok);
+      starts = one_start_more c.args.automaton.now.graph.starts c.loop-state.automaton.graph.starts c.add_start.new.self.graph.starts c.loop-state.state
+          inv.starts (ap (λ (g : Automaton). g.starts) ok);
       same = record {
         states = ap (λ (g : Automaton). g.states) ok ∙ inv.same.states;
         ways = ap (λ (g : Automaton). g.ways) ok ∙ inv.same.ways;

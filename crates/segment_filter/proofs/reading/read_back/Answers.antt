@@ -10,8 +10,15 @@ use Rattle.segment_filter.proofs.reading.read_back.Goals as goal
 pub loop-k-init : goal.loop-k-init
 loop-k-init g c =
     let t = c.args.table.now in
-    let r = first_kept t (reverse c.args.doc.now) (numbers_of c.in_ok-numbers.numbers) (numbers_of c.in_ok-none.none) c.start-set.result c.start-set.ensures.tabled c.start-set.ensures.value c.in_ok-none.ensures c.in_ok-numbers.ensures in
-    record { grows = grows_not t t refl; count = r.0; led = r.1; reading = reading_starts t (reverse c.args.doc.now) c.start-set.result c.args.steps.now c.requires.fresh c.start-set.ensures.value c.start-set.ensures.tabled; here = r.2 }
+    let r = first_kept t (reverse c.args.doc.now) (numbers_of c.in_ok-numbers.numbers) (numbers_of c.in_ok-none.none) c.start-set.result
+    c.start-set.ensures.tabled c.start-set.ensures.value c.in_ok-none.ensures c.in_ok-numbers.ensures in
+    record {
+      grows = grows_not t t refl;
+      count = r.0;
+      led = r.1;
+      reading = reading_starts t (reverse c.args.doc.now) c.start-set.result c.args.steps.now c.requires.fresh c.start-set.ensures.value c.start-set.ensures.tabled;
+      here = r.2;
+    }
 
 pub returns-in-None-clause-ok : goal.returns-in-None-clause-ok
 returns-in-None-clause-ok g c =
