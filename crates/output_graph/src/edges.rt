@@ -20,66 +20,76 @@ use std::sync::ledger::Ledger;
 /// The one set of accepted words, which ends lead to.
 pub const ACCEPTED: u32 = 0;
 
-/// One edge, by a new cell for its target, whose place is known.
+/// Where an edge starts: the cell of its source, and its position.
+#[derive(Clone, Copy)]
+pub struct Origin {
+    pub source: Cell,
+    pub at: u32,
+}
+
+/// Where an edge leads: a set, and its place in the next layer.
+#[derive(Clone, Copy)]
+pub struct Target {
+    pub set: u32,
+    pub place: usize,
+}
+
+/// One edge, by a new cell for its target.
 pub fn link_edge<L: Ledger>(
     arena: &mut Arena,
     next: &mut Layer,
-    source: Cell,
-    at: u32,
+    origin: Origin,
     marks: Marks,
-    to: u32,
-    place: usize,
+    target: Target,
     steps: &mut Steps<L>,
 ) -> Cell
-    requires placed { place ≡ place_in (sets_of next.old.pairs) to }
+    requires placed { target.place ≡ place_in (sets_of next.old.pairs) target.set }
     requires spare { 1 ≤ arena.old.spare }
     requires room { 1 ≤ next.old.room }
-    requires covered { to < next.old.known }
-    requires from { HasCell arena.old.cells source }
-    requires also { IfSome (cell_of next.old.pairs to) (λ c. (hold arena.old.holds c ≡ 1) × (c ≡ source → ⊥)) }
+    requires covered { target.set < next.old.known }
+    requires from { HasCell arena.old.cells origin.source }
+    requires also { IfSome (cell_of next.old.pairs target.set) (λ c. (hold arena.old.holds c ≡ 1) × (c ≡ origin.source → ⊥)) }
     ensures fresh { HasCell arena.old.cells result → ⊥ }
-    ensures cells { arena.new.cells ≡ new_link result at marks source (cell_of next.old.pairs to) ∷ arena.old.cells }
-    ensures holds { arena.new.holds ≡ with_hold (less_hold arena.old.holds (cell_of next.old.pairs to)) result 1 }
-    ensures next { next.new.pairs ≡ set_cell next.old.pairs to result }
+    ensures cells { arena.new.cells ≡ new_link result origin.at marks origin.source (cell_of next.old.pairs target.set) ∷ arena.old.cells }
+    ensures holds { arena.new.holds ≡ with_hold (less_hold arena.old.holds (cell_of next.old.pairs target.set)) result 1 }
+    ensures next { next.new.pairs ≡ set_cell next.old.pairs target.set result }
     ensures spare { arena.new.spare + 1 ≡ arena.old.spare }
     ensures room { next.old.room ≤ next.new.room + 1 }
     ensures known { next.new.known ≡ next.old.known }
     ensures steps { steps.new ≡ steps.old + 1 }
 {
-    let also = next.cell_at(place);
-    let cell = arena.link(at, marks, source, also, steps);
-    next.put_at(place, to, cell);
+    let also = next.cell_at(target.place);
+    let cell = arena.link(origin.at, marks, origin.source, also, steps);
+    next.put_at(target.place, target.set, cell);
     cell
 }
 
-/// The edge without marks, which is a source's last. The target, whose place is known, takes the source's cell, where it
-/// has none.
+/// The edge without marks, which is a source's last. The target takes the source's cell, where it has none.
 pub fn pass_on<L: Ledger>(
     arena: &mut Arena,
     next: &mut Layer,
-    source: Cell,
-    at: u32,
-    to: u32,
-    place: usize,
+    origin: Origin,
+    target: Target,
     steps: &mut Steps<L>,
 )
-    requires placed { place ≡ place_in (sets_of next.old.pairs) to }
-    requires can { CanEnd at source ((0, to) ∷ []) arena.old.cells next.old.pairs arena.old.holds }
+    requires placed { target.place ≡ place_in (sets_of next.old.pairs) target.set }
+    requires can { CanEnd origin.at origin.source ((0, target.set) ∷ []) arena.old.cells next.old.pairs arena.old.holds }
     requires spare { 1 ≤ arena.old.spare }
     requires room { 1 ≤ next.old.room }
-    requires covered { to < next.old.known }
-    ensures ended { HasEnded at source ((0, to) ∷ []) arena.old.cells next.old.pairs arena.old.holds arena.new.cells next.new.pairs arena.new.holds }
+    requires covered { target.set < next.old.known }
+    ensures ended { HasEnded origin.at origin.source ((0, target.set) ∷ []) arena.old.cells next.old.pairs arena.old.holds arena.new.cells next.new.pairs arena.new.holds }
     ensures spent { IsSpent 1 (length arena.old.cells) (length arena.new.cells) steps.old steps.new }
     ensures counted { steps.old ≤ steps.new }
-    ensures next { (c : ℕ) × (next.new.pairs ≡ set_cell next.old.pairs to c) }
+    ensures next { (c : ℕ) × (next.new.pairs ≡ set_cell next.old.pairs target.set c) }
     ensures spare { arena.old.spare ≤ arena.new.spare + 1 }
     ensures room { next.old.room ≤ next.new.room + 1 }
     ensures known { next.new.known ≡ next.old.known }
 {
-    match next.cell_at(place) {
-        None => next.put_at(place, to, source),
+    match next.cell_at(target.place) {
+        None => next.put_at(target.place, target.set, origin.source),
         Some(_) => {
-            let _cell = link_edge(arena, next, source, at, Marks::none(), to, place, steps);
+            let source = origin.source;
+            let _cell = link_edge(arena, next, origin, Marks::none(), target, steps);
             arena.release(source, steps);
         }
     }
@@ -103,11 +113,21 @@ pub fn make_edges<L: Ledger>(
     ensures counted { steps.old ≤ steps.new }
 {
     for edge in edges {
-        let place = next.place_for(edge.to);
+        let target = Target {
+            set: edge.to,
+            place: next.place_for(edge.to),
+        };
         if edge.marks.is_none() {
-            return pass_on(arena, next, source, at, edge.to, place, steps);
+            return pass_on(arena, next, Origin { source, at }, target, steps);
         }
-        let _cell = link_edge(arena, next, source, at, edge.marks, edge.to, place, steps);
+        let _cell = link_edge(
+            arena,
+            next,
+            Origin { source, at },
+            edge.marks,
+            target,
+            steps,
+        );
     }
     arena.release(source, steps);
 }
@@ -130,11 +150,14 @@ pub fn make_ends<L: Ledger>(
     ensures counted { steps.old ≤ steps.new }
 {
     for marks in ends {
-        let place = next.place_for(ACCEPTED);
+        let target = Target {
+            set: ACCEPTED,
+            place: next.place_for(ACCEPTED),
+        };
         if marks.is_none() {
-            return pass_on(arena, next, source, at, ACCEPTED, place, steps);
+            return pass_on(arena, next, Origin { source, at }, target, steps);
         }
-        let _cell = link_edge(arena, next, source, at, *marks, ACCEPTED, place, steps);
+        let _cell = link_edge(arena, next, Origin { source, at }, *marks, target, steps);
     }
     arena.release(source, steps);
 }
