@@ -113,21 +113,15 @@ pub fn make_edges<L: Ledger>(
     ensures counted { steps.old ≤ steps.new }
 {
     for edge in edges {
+        let origin = Origin { source, at };
         let target = Target {
             set: edge.to,
             place: next.place_for(edge.to),
         };
         if edge.marks.is_none() {
-            return pass_on(arena, next, Origin { source, at }, target, steps);
+            return pass_on(arena, next, origin, target, steps);
         }
-        let _cell = link_edge(
-            arena,
-            next,
-            Origin { source, at },
-            edge.marks,
-            target,
-            steps,
-        );
+        let _cell = link_edge(arena, next, origin, edge.marks, target, steps);
     }
     arena.release(source, steps);
 }
@@ -150,14 +144,15 @@ pub fn make_ends<L: Ledger>(
     ensures counted { steps.old ≤ steps.new }
 {
     for marks in ends {
+        let origin = Origin { source, at };
         let target = Target {
             set: ACCEPTED,
             place: next.place_for(ACCEPTED),
         };
         if marks.is_none() {
-            return pass_on(arena, next, Origin { source, at }, target, steps);
+            return pass_on(arena, next, origin, target, steps);
         }
-        let _cell = link_edge(arena, next, Origin { source, at }, *marks, target, steps);
+        let _cell = link_edge(arena, next, origin, *marks, target, steps);
     }
     arena.release(source, steps);
 }
