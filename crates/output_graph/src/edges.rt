@@ -3,7 +3,7 @@
 //! Edges descend, so the one without markers comes last: where its target has no cell yet the source's own cell is
 //! handed on, and nothing is made. What a cell stands for stays in block order because later and lesser blocks are
 //! newer.
-ghost use Rattle.std.specs.Prelude.{◌≡◌, ◌≤◌, ◌<◌, ◌+◌, ℕ, List, [], ◌∷◌, length, Some, None, IfSome};
+ghost use Rattle.std.specs.Prelude.{◌≡◌, ◌≤◌, ◌<◌, ◌+◌, ℕ, [], ◌∷◌, length, Some, None, IfSome};
 ghost use Rattle.span_core.specs.Lists.{Has};
 ghost use Rattle.node_arena.specs.Cells.{HasCell, hold, with_hold, less_hold, new_link};
 ghost use Rattle.output_graph.specs.Forward.{cell_of, set_cell};

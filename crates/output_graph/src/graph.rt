@@ -2,9 +2,9 @@
 //!
 //! The sources of a layer are stepped one after the other, each by its edges at one position; when all are, the next
 //! layer takes the place of this one. Room is made before a source is stepped, so that a refusal changes nothing.
-ghost use Rattle.std.specs.Prelude.{◌≡◌, ◌↔◌, ◌≤◌, ◌<◌, ◌+◌, ◌*◌, ℕ, [], ◌∷◌, map, drop, length, slice_get, Some, OnOk, OnErr, IfOk};
+ghost use Rattle.std.specs.Prelude.{◌≡◌, ◌↔◌, ◌≤◌, ◌<◌, ◌+◌, ◌*◌, ℕ, [], ◌∷◌, length, slice_get, Some, OnOk, OnErr, IfOk};
 ghost use Rattle.span_core.specs.Lists.{AreDistinct, Has};
-ghost use Rattle.node_arena.specs.Cells.{NamedLink, HasCell};
+ghost use Rattle.node_arena.specs.Cells.{HasCell};
 ghost use Rattle.output_graph.specs.Source.{Descend};
 ghost use Rattle.output_graph.specs.Graph.{HasWord, sources, targets, sets_of, IsPlace, IsStepped, IsCost, IsReached, AreApart};
 ghost use Rattle.output_graph.specs.Sound.{edges_of, edges_of_ends};

@@ -2,7 +2,7 @@
 //!
 //! A list of pairs, and for each set number a place in it that is believed only where the list agrees (Briggs and
 //! Torczon 1993). So a set is found with no search, and a layer is emptied by forgetting its length.
-ghost use Rattle.std.specs.Prelude.{◌≡◌, ◌≤◌, ◌<◌, ◌+◌, ◌^◌, ℕ, [], length, slice_get, Some, IfOk, OnOk, MatchOption};
+ghost use Rattle.std.specs.Prelude.{◌≡◌, ◌≤◌, ◌<◌, ◌+◌, ℕ, [], length, slice_get, Some, OnOk, MatchOption};
 ghost use Rattle.output_graph.specs.Forward.{cell_of, set_cell};
 ghost use Rattle.output_graph.specs.Graph.{sets_of};
 ghost use Rattle.output_graph.specs.Programs.{place_in};

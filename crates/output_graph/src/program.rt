@@ -2,7 +2,7 @@
 //!
 //! A program lists the edges of each source and, worked out from them, what they do to cells: so that running it looks up
 //! no set and touches no cell that is handed on. It goes where stepping the sources one after the other goes.
-ghost use Rattle.std.specs.Prelude.{◌≡◌, ◌≤◌, ◌<◌, ◌+◌, ℕ, [], ◌∷◌, ◌++◌, flat_map, length, slice_get, IfOk, OnOk};
+ghost use Rattle.std.specs.Prelude.{◌≡◌, ◌≤◌, ◌<◌, ◌+◌, [], ◌∷◌, ◌++◌, flat_map, length, slice_get, IfOk, OnOk};
 ghost use Rattle.output_graph.specs.Source.{Descend};
 ghost use Rattle.output_graph.specs.Sound.{edges_of};
 ghost use Rattle.output_graph.specs.Plans.{HasEdge, HasEdges, IsPlan, hands_on, put, release_of};

@@ -2,7 +2,7 @@
 //!
 //! A program that stands alone has lists of its own, each somewhere else in memory. Here they lie one behind another, so
 //! that running one reads few places. Of a plan they have the code and the targets, which is all that a run reads.
-ghost use Rattle.std.specs.Prelude.{◌≡◌, ◌<◌, ◌≤◌, ◌++◌, ◌∷◌, [], List, length, slice_get, IfOk, OnErr, OnOk};
+ghost use Rattle.std.specs.Prelude.{◌≡◌, ◌<◌, ◌++◌, ◌∷◌, [], List, length, slice_get, IfOk, OnErr, OnOk};
 ghost use Rattle.output_graph.specs.Codes.{IsCode};
 ghost use Rattle.output_graph.specs.Planned.{code_long};
 ghost use Rattle.output_graph.specs.Plans.{IsPlan};
