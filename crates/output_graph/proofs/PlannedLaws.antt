@@ -1,5 +1,5 @@
 -- The first of the programs that are left.
-use Rattle.std.proofs.Common.{◌≡◌, ℕ, suc, ◌+◌, ◌<◌, List, [], ◌∷◌, ◌++◌, length, get_or, drop, refl, sym, subst, add-one}
+use Rattle.std.proofs.Common.{◌≡◌, ℕ, ◌+◌, ◌<◌, List, [], ◌∷◌, ◌++◌, length, get_or, drop, refl, sym, subst, add-one}
 use Rattle.std.proofs.Math.Seq.{drop-cons}
 use Rattle.output_graph.specs.declared.planned.Planned.{Planned}
 use Rattle.output_graph.specs.Graph.{Graph, IsPlace}

@@ -1,4 +1,4 @@
-use Rattle.std.proofs.Common.{◌≡◌, ◌≤◌, ◌+◌, ◌++◌, List, length, drop, sym, ap, ◌∙◌, subst, arith}
+use Rattle.std.proofs.Common.{◌+◌, ◌++◌, List, drop, sym, ap, ◌∙◌, subst, arith}
 use Rattle.output_graph.specs.declared.program.Action.{Action}
 use Rattle.output_graph.specs.declared.program.Register.{Register}
 use Rattle.output_graph.specs.Codes.{IsTaken}

@@ -1,5 +1,5 @@
 use Rattle.std.proofs.Common.{◌≡◌, [], length, sym, arith, ◌∙◌}
-use Rattle.output_graph.specs.Graph.{Graph, sets_of}
+use Rattle.output_graph.specs.Graph.{Graph}
 use Rattle.output_graph.specs.Programs.{edges_in}
 use Rattle.output_graph.specs.Sound.{graph_of}
 use Rattle.output_graph.proofs.ComeLaws.{come_distinct, come_long, come_names, come_next, come_sound, whole}

@@ -1,10 +1,9 @@
-use Rattle.std.proofs.Common.{◌≡◌, ◌+◌, ℕ, [], length, drop, ap, refl, sym, subst, ◌∙◌, arith, List}
-use Rattle.std.proofs.lemmas.List.{length-map}
+use Rattle.std.proofs.Common.{[], length, ap, refl, sym, subst, ◌∙◌, arith, List}
 use Rattle.std.proofs.Math.ListN.{drop_of_length-le}
 use Rattle.output_graph.specs.declared.planned.Planned.{Planned}
 use Rattle.output_graph.specs.Graph.{Graph}
 use Rattle.output_graph.specs.Planned.{AreRun, AreWithin, IsRunBy, MayRun, codes_long}
-use Rattle.output_graph.specs.Pools.{program_at, programs_in}
+use Rattle.output_graph.specs.Pools.{programs_in}
 use Rattle.output_graph.specs.Programs.{Steps}
 use Rattle.output_graph.specs.Sound.{graph_of}
 use Rattle.output_graph.proofs.PlaceLaws.{place_of}

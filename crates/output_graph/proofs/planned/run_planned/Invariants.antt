@@ -1,4 +1,4 @@
-use Rattle.std.proofs.Common.{◌≡◌, ◌≤◌, ◌+◌, ℕ, [], length, drop}
+use Rattle.std.proofs.Common.{◌≤◌, ◌+◌, ℕ, [], length, drop}
 use Rattle.std.specs.Vec.{vec_capacity, vec_len}
 use Rattle.output_graph.specs.Graph.{Graph}
 use Rattle.output_graph.specs.Planned.{AreRun, AreWithin, MayRun, codes_long}

@@ -1,4 +1,4 @@
-use Rattle.std.proofs.Common.{◌≡◌, ◌++◌, [], ◌∷◌, length, refl, ap, ◌∙◌, subst, arith, List}
+use Rattle.std.proofs.Common.{◌≡◌, ◌++◌, [], ◌∷◌, length, refl, ap, ◌∙◌, arith}
 use Rattle.output_graph.specs.declared.program.Plan.{Plan}
 use Rattle.output_graph.proofs.PlanLaws.{groups_next, plan_next}
 use Rattle.output_graph.proofs.program.add_source.Goals as goal

@@ -1,4 +1,4 @@
-use Rattle.std.proofs.Common.{◌≤◌, ◌+◌, [], length, drop, take, refl, ap, ◌∙◌, arith, add-one}
+use Rattle.std.proofs.Common.{[], length, take, ap, ◌∙◌, arith, add-one}
 use Rattle.output_graph.specs.declared.code.Instruction.TheVariants.{Create, Free, Shift}
 use Rattle.output_graph.specs.Forward.{Layer}
 use Rattle.output_graph.specs.Graph.{sets_of}

@@ -1,4 +1,4 @@
-use Rattle.std.proofs.Common.{◌≤◌, sym, ◌∙◌, arith, length}
+use Rattle.std.proofs.Common.{sym, ◌∙◌, arith}
 use Rattle.std.proofs.lemmas.Option.{slice_get_read}
 use Rattle.output_graph.proofs.CodeLaws.{with_behind, with_within}
 use Rattle.output_graph.proofs.registers.Registers.put.Goals as goal

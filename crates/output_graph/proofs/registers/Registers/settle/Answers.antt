@@ -1,4 +1,4 @@
-use Rattle.std.proofs.Common.{◌≡◌, ◌≤◌, ℕ, List, length, take, inl, inr, sym, ap, ◌∙◌, arith}
+use Rattle.std.proofs.Common.{◌≡◌, ℕ, List, length, inl, inr, sym, ap, ◌∙◌, arith}
 use Rattle.output_graph.specs.Forward.{Layer}
 use Rattle.output_graph.specs.Graph.{sets_of}
 use Rattle.output_graph.specs.Named.{named}
