@@ -24,7 +24,7 @@ use Rattle.marked_automaton.specs.declared.fault.SizeFault.{SizeFault}
 use Rattle.marked_automaton.specs.declared.fault.SizeFault.TheVariants.{Ways}
 use Rattle.marked_automaton.proofs.Sizes.{no_more}
 use Rattle.algebra.specs.declared.pairs.Pair.{Pair}
-use Rattle.algebra.specs.Pairs.{pair_of, pairs, PairWay, IsWayBetween, Matched, AreWithin, IsFollowed, IsRefusalOf}
+use Rattle.algebra.specs.Pairs.{pair_of, pairs, PairWay, IsWayBetween, Matched, ArePairsWithin, IsFollowed, IsRefusalOf}
 use Rattle.algebra.specs.Operations.{has_some, is_some_list}
 use Rattle.algebra.proofs.Bytes.{some_has}
 use Rattle.std.specs.Ordering.{nat_cmp, eq_by_cmp}
@@ -146,7 +146,7 @@ abbrev Numbered : ℕ → List Pair → ℕ → ℕ → Type 0
 Numbered n2 keys i v = (k : Pair) × (slice_get keys i ≡ Some k) × (k.left * n2 + k.right ≡ v) × (k.right < n2)
 
 -- pairs that differ, of so many states of each side, are no more than the product
-pub pairs_few : (n1 n2 : ℕ) (keys : List Pair) → AreDistinct keys → AreWithin n1 n2 keys → length keys ≤ n1 * n2
+pub pairs_few : (n1 n2 : ℕ) (keys : List Pair) → AreDistinct keys → ArePairsWithin n1 n2 keys → length keys ≤ n1 * n2
 pairs_few n1 n2 keys apart within = no_more (n1 * n2) (length keys) (Numbered n2 keys)
     (λ i l.
     let d : Pair = pair_of 0 0 in
@@ -177,10 +177,10 @@ module _ (there : Bool) (keys : List Pair) (k : Pair) where
   abbrev pub with_key : List Pair
   with_key = if there then keys else keys ++ k ∷ []
 
-  pub with_key_within : (n1 n2 : ℕ) → AreWithin n1 n2 keys → k.left < n1 → k.right < n2 → AreWithin n1 n2 with_key
+  pub with_key_within : (n1 n2 : ℕ) → ArePairsWithin n1 n2 keys → k.left < n1 → k.right < n2 → ArePairsWithin n1 n2 with_key
   with_key_within n1 n2 h l r = by there
     where
-      by : (b : Bool) → AreWithin n1 n2 (if b then keys else keys ++ k ∷ [])
+      by : (b : Bool) → ArePairsWithin n1 n2 (if b then keys else keys ++ k ∷ [])
       by true = h
       by false = λ x has. elim (Has-append_cases keys (k ∷ []) x has) [
         | inl a ↦ h x a

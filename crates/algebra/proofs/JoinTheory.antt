@@ -31,7 +31,7 @@ use Rattle.algebra.specs.JoinedMarks.{agree_on, joined}
 use Rattle.algebra.specs.JoinedNames.{all_names}
 use Rattle.algebra.specs.Joining.{IsJoinFault, IsJoinFaultWithin, IsJoinOf, join_over}
 use Rattle.algebra.specs.Operations.{ends_with, goes_with, has_some, join_of, meet, pair_stop, pair_way}
-use Rattle.algebra.specs.Pairs.{AreStarted, AreWithin, HaveSameRows, HaveSmallMarks, IsIdlePair, IsStopAt, IsWayBetween, LeadWithin, Matched, PairStop, PairWay, half_at, half_from, pair_of, pairs, stop_pair, stops_at_pair, stops_meet, those_at, way_pair, ways_at, ways_meet}
+use Rattle.algebra.specs.Pairs.{AreStarted, ArePairsWithin, HaveSameRows, HaveSmallMarks, IsIdlePair, IsStopAt, IsWayBetween, LeadWithin, Matched, PairStop, PairWay, half_at, half_from, pair_of, pairs, stop_pair, stops_at_pair, stops_meet, those_at, way_pair, ways_at, ways_meet}
 use Rattle.algebra.specs.Renaming.{half_stop, half_way}
 use Rattle.algebra.specs.Sides.{IsAssembledOf, IsMadeOf, IsRefusedSearch, IsSearchOf, IsSearchRefusal, IsSideOf, IsTold, graph_of, half_ways_of, shifts_of, stops_tried}
 use Rattle.marked_automaton.proofs.Passing.{both_true, filter_cases, flat_map_cases, has_filter, has_flat_map, right_true}
@@ -210,7 +210,7 @@ module _ {A B : Marked} (a : IsMarked A) (b : IsMarked B) (all : List VarName) w
     idles = b.whole.idles;
   }
 
-  within_starts : (keys0 : List Pair) → AreStarted A.graph.starts B.graph.starts [] keys0 → AreWithin n1 n2 keys0
+  within_starts : (keys0 : List Pair) → AreStarted A.graph.starts B.graph.starts [] keys0 → ArePairsWithin n1 n2 keys0
   within_starts keys0 started = λ k h. elim (started.only k h) [ inl n ↦ absurd n | inr r ↦ (a.whole.starts k.left r.0, b.whole.starts k.right r.1) ]
 
   module _ {one two : Operand} (left : IsSideOf own1 shared1 A one) (right : IsSideOf own2 shared2 B two) where
@@ -281,19 +281,19 @@ module _ {A B : Marked} (a : IsMarked A) (b : IsMarked B) (all : List VarName) w
       stop_rows : flat_map (stops_at_pair sx sy) keys ≡ flat_map (stops_at_pair SX SY) keys
       stop_rows = λ i. flat_map (λ (k : Pair). pairs stops_meet stop_pair (right.stops k.right i) (left.stops k.left i)) keys
 
-      starts_within : AreWithin n1 n2 keys0
+      starts_within : ArePairsWithin n1 n2 keys0
       starts_within = within_starts keys0 started
 
       in_all : (r : PairWay) → Has (flat_map (ways_at xs ys) keys) r → Has R r
       in_all r h = gathered_ways keys X Y r s.apart (subst (λ zs. Has zs r) rows h)
 
-      within : AreWithin n1 n2 keys
+      within : ArePairsWithin n1 n2 keys
       within = s.followed.within n1 n2 starts_within (λ r h. lead_within r (in_all r h))
 
-      pub within_sides : AreWithin (graph_of one).states (graph_of two).states keys
+      pub within_sides : ArePairsWithin (graph_of one).states (graph_of two).states keys
       within_sides =
-          subst (λ (N : Marked). AreWithin (graph_of one).states N.graph.states keys) (sym right.automaton)
-          (subst (λ (M : Marked). AreWithin M.graph.states n2 keys) (sym left.automaton) within)
+          subst (λ (N : Marked). ArePairsWithin (graph_of one).states N.graph.states keys) (sym right.automaton)
+          (subst (λ (M : Marked). ArePairsWithin M.graph.states n2 keys) (sym left.automaton) within)
 
       between : Matched (IsWayBetween keys) (flat_map (ways_at xs ys) keys) made
       between = subst (λ (ws : List Way). Matched (IsWayBetween keys) (flat_map (ways_at xs ys) keys) ws) (sym s.followed.ways) s.followed.between

@@ -13,7 +13,7 @@ use Rattle.marked_automaton.specs.Automaton.{Automaton, HasByte}
 use Rattle.marked_automaton.specs.Reduct.{IsReachedIn, IsReached, HasEnd, Knows, Reduces}
 use Rattle.marked_automaton.proofs.Listed.{some_same, get_map, get_map_cases}
 use Rattle.algebra.specs.declared.pairs.Pair.{Pair}
-use Rattle.algebra.specs.Pairs.{pair_of, PairWay, PairStop, IsWayBetween, IsStopAt, Matched, AreWithin}
+use Rattle.algebra.specs.Pairs.{pair_of, PairWay, PairStop, IsWayBetween, IsStopAt, Matched, ArePairsWithin}
 use Rattle.algebra.proofs.Gathered.{one_of}
 use Rattle.marked_automaton.proofs.Passing.{flat_map_cases, has_flat_map}
 use Rattle.algebra.proofs.Joins.{pair_same}
@@ -65,7 +65,7 @@ pub record IsOfFound (starts1 starts2 : List ℕ) (ways made : List PairWay) (st
   pub idles : (a : ℕ) (k : Pair) → slice_get keys a ≡ Some k → Has C.idle a ↔ (Has idle1 k.left × Has idle2 k.right)
 
 module _ (n1 n2 : ℕ) (starts1 starts2 : List ℕ) (ways : List PairWay) (stops : List PairStop) (idle1 idle2 : List ℕ)
-    (sides : AreSides n1 n2 starts1 starts2 ways stops idle1 idle2) (keys : List Pair) (within : AreWithin n1 n2 keys)
+    (sides : AreSides n1 n2 starts1 starts2 ways stops idle1 idle2) (keys : List Pair) (within : ArePairsWithin n1 n2 keys)
     (made : List PairWay) (made_stops : List PairStop) (C : Automaton)
     (found : IsOfFound starts1 starts2 ways made stops made_stops idle1 idle2 keys C) where
   abbrev J : Automaton

@@ -20,7 +20,7 @@ use Rattle.algebra.specs.declared.halves.Operand.{Operand}
 use Rattle.algebra.specs.declared.pairs.Pair.{Pair}
 use Rattle.algebra.specs.Renaming.{half_way}
 use Rattle.algebra.specs.Sides.{IsProductRefusal, graph_of, half_ways_of}
-use Rattle.algebra.specs.Pairs.{pair_of, pairs, those_at, PairWay, AreRowsOf, AreStarted, AreWithin, IsRefusalOf, LeadWithin, half_from, way_from, way_pair, ways_at, ways_meet}
+use Rattle.algebra.specs.Pairs.{pair_of, pairs, those_at, PairWay, AreRowsOf, AreStarted, ArePairsWithin, IsRefusalOf, LeadWithin, half_from, way_from, way_pair, ways_at, ways_meet}
 use Rattle.algebra.proofs.Gathered.{one_of, gathered, those_map}
 use Rattle.marked_automaton.proofs.Passing.{filter_cases}
 
@@ -156,15 +156,15 @@ started_then lefts rights i left k1 k2 k3 l is a b = record {
 }
 
 -- what is found of starts is within the sides
-pub started_within : (lefts rights : List ℕ) (k1 k2 : List Pair) (n1 n2 : ℕ) → AreStarted lefts rights k1 k2 → AreWithin n1 n2 k1 →
-    ((p : ℕ) → Has lefts p → p < n1) → ((q : ℕ) → Has rights q → q < n2) → AreWithin n1 n2 k2
+pub started_within : (lefts rights : List ℕ) (k1 k2 : List Pair) (n1 n2 : ℕ) → AreStarted lefts rights k1 k2 → ArePairsWithin n1 n2 k1 →
+    ((p : ℕ) → Has lefts p → p < n1) → ((q : ℕ) → Has rights q → q < n2) → ArePairsWithin n1 n2 k2
 started_within lefts rights k1 k2 n1 n2 a within l r = λ k h.
     elim (a.only k h) [ inl x ↦ within k x | inr y ↦ (l k.left y.0, r k.right y.1) ]
 
 -- a refusal of a search, be it for want of effort, is one by the product of the states
 pub refusal_within : (A B : Automaton) (xs ys : List HalfWay) (keys : List Pair) (ways : List Way) (e : SizeFault) →
     IsRefusalOf (pairs ways_meet way_pair ys xs) keys ways e ⊎ IsProductRefusal A B e →
-    (w : ℕ) → AreWithin A.states B.states keys → LeadWithin A.states B.states (pairs ways_meet way_pair ys xs) → length ways + length (pairs ways_meet way_pair ys xs) ≤ w →
+    (w : ℕ) → ArePairsWithin A.states B.states keys → LeadWithin A.states B.states (pairs ways_meet way_pair ys xs) → length ways + length (pairs ways_meet way_pair ys xs) ≤ w →
     IsSizeFaultWithin (A.states * B.states) w e
 refusal_within A B xs ys keys ways e (inl h) w within lead few = h A.states B.states w within lead few
 refusal_within A B xs ys keys ways e (inr h) w within lead few = subst (λ (e : SizeFault). IsSizeFaultWithin (A.states * B.states) w e) (sym h.1) (h.0, omega arith)

@@ -103,8 +103,8 @@ Matched P (x ∷ xs) [] = ⊥
 Matched P (x ∷ xs) (y ∷ ys) = P x y × Matched P xs ys
 
 -- each pair is one of so many states of each side
-abbrev pub AreWithin : ℕ → ℕ → List Pair → Type 0
-AreWithin n1 n2 keys = (k : Pair) → Has keys k → (k.left < n1) × (k.right < n2)
+abbrev pub ArePairsWithin : ℕ → ℕ → List Pair → Type 0
+ArePairsWithin n1 n2 keys = (k : Pair) → Has keys k → (k.left < n1) × (k.right < n2)
 
 -- these lead to pairs of so many states of each side
 abbrev pub LeadWithin : ℕ → ℕ → List PairWay → Type 0
@@ -126,7 +126,7 @@ pub record IsFollowed (made : List PairWay) (keys1 : List Pair) (ways1 : List Wa
   pub found : List Pair
   pub keys : keys2 ≡ keys1 ++ found
   pub few : length keys1 ≤ MOST_STATES → length keys2 ≤ MOST_STATES
-  pub within : (n1 n2 : ℕ) → AreWithin n1 n2 keys1 → LeadWithin n1 n2 made → AreWithin n1 n2 keys2
+  pub within : (n1 n2 : ℕ) → ArePairsWithin n1 n2 keys1 → LeadWithin n1 n2 made → ArePairsWithin n1 n2 keys2
   pub new : List Way
   pub ways : ways2 ≡ ways1 ++ new
   pub between : Matched (IsWayBetween keys2) made new
@@ -136,7 +136,7 @@ pub record IsFollowed (made : List PairWay) (keys1 : List Pair) (ways1 : List Wa
 -- a refusal where these ways are to be made
 abbrev pub IsRefusalOf : List PairWay → List Pair → List Way → SizeFault → Type 0
 IsRefusalOf made keys ways e =
-    (n1 n2 w : ℕ) → AreWithin n1 n2 keys → LeadWithin n1 n2 made → length ways + length made ≤ w → IsSizeFaultWithin (n1 * n2) w e
+    (n1 n2 w : ℕ) → ArePairsWithin n1 n2 keys → LeadWithin n1 n2 made → length ways + length made ≤ w → IsSizeFaultWithin (n1 * n2) w e
 
 -- of each state the same elements, in the same order
 abbrev pub HaveSameRows : {X : Type 0} → (X → ℕ) → List X → List X → Type 0
@@ -153,7 +153,7 @@ pub record AreStarted (lefts rights : List ℕ) (keys1 keys2 : List Pair) : Type
 -- a refusal where these pairs are to be found
 abbrev pub IsStartRefusal : List ℕ → List ℕ → List Pair → SizeFault → Type 0
 IsStartRefusal lefts rights keys e =
-    (n1 n2 w : ℕ) → AreWithin n1 n2 keys → ((p : ℕ) → Has lefts p → p < n1) → ((q : ℕ) → Has rights q → q < n2) → IsSizeFaultWithin (n1 * n2) w e
+    (n1 n2 w : ℕ) → ArePairsWithin n1 n2 keys → ((p : ℕ) → Has lefts p → p < n1) → ((q : ℕ) → Has rights q → q < n2) → IsSizeFaultWithin (n1 * n2) w e
 
 -- the ends at one state
 abbrev pub stop_at : ℕ → PairStop → Stop

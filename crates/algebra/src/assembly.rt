@@ -9,7 +9,7 @@ ghost use Rattle.marked_automaton.specs.declared.TheConstants.{MOST_STATES};
 ghost use Rattle.marked_automaton.specs.Automaton.{HasGraphOf, IsWayOf, idle_way};
 ghost use Rattle.algebra.specs.Joining.{IsJoinFaultWithin, IsSpentOn};
 ghost use Rattle.algebra.specs.Sides.{IsAssembledOf, graph_of, stops_tried};
-ghost use Rattle.algebra.specs.Pairs.{AreWithin, HasAllButStarts, HasAllButStops, IsIdleHere, IsIdlePair, IsStopAt, Matched, half_at, pairs, stop_at, stop_pair, stops_at_pair, stops_meet, stops_with};
+ghost use Rattle.algebra.specs.Pairs.{ArePairsWithin, HasAllButStarts, HasAllButStops, IsIdleHere, IsIdlePair, IsStopAt, Matched, half_at, pairs, stop_at, stop_pair, stops_at_pair, stops_meet, stops_with};
 
 use crate::MOST_ENDS;
 use crate::effort::Effort;
@@ -35,7 +35,7 @@ pub(crate) fn assembled(
     requires few_states { length reached.found.keys ≤ MOST_STATES }
     requires starts { reached.starts ≤ length reached.found.keys }
     requires ways { All (IsWayOf (length reached.found.keys) (length vars)) reached.ways.items }
-    requires within { AreWithin (graph_of left.now).states (graph_of right.now).states reached.found.keys }
+    requires within { ArePairsWithin (graph_of left.now).states (graph_of right.now).states reached.found.keys }
     requires idle { (p : ℕ) → IsIdlePair reached.found.keys (graph_of left.now).idle (graph_of right.now).idle p → Has reached.ways.items (idle_way p) }
     requires left { IsNonDecreasingBy half_at left.now.stops.items }
     requires right { IsNonDecreasingBy half_at right.now.stops.items }
@@ -198,7 +198,7 @@ fn add_idle(
 ) -> Result<(), OutOfMemory>
     requires states { automaton.old.graph.states ≡ length found.now }
     requires few_states { length found.now ≤ MOST_STATES }
-    requires within { AreWithin a.now.graph.states b.now.graph.states found.now }
+    requires within { ArePairsWithin a.now.graph.states b.now.graph.states found.now }
     requires ways { (p : ℕ) → IsIdlePair found.now a.now.graph.idle b.now.graph.idle p → Has automaton.old.graph.ways (idle_way p) }
     ensures names { automaton.new.names ≡ automaton.old.names }
     ensures graph { OnOk result (HasGraphOf automaton.new.graph automaton.old.graph) }

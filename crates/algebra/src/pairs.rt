@@ -5,7 +5,7 @@ ghost use Rattle.marked_automaton.specs.declared.TheConstants.{MOST_STATES, MOST
 ghost use Rattle.marked_automaton.specs.Faults.{IsSizeFaultWithin};
 ghost use Rattle.algebra.specs.Joining.{IsSpentOn};
 ghost use Rattle.algebra.specs.Sides.{IsJoinable, IsProductRefusal, IsSearchOf, IsSearchRefusal, IsFollowRefusal, IsTold, half_ways_of, ways_of_all};
-ghost use Rattle.algebra.specs.Pairs.{AreRowsOf, AreStarted, AreWithin, HaveSmallMarks, IsFollowed, IsRefusalOf, IsStartRefusal, half_from, pair_of, pairs, tried_at, way_pair, ways_meet, ways_with};
+ghost use Rattle.algebra.specs.Pairs.{AreRowsOf, AreStarted, ArePairsWithin, HaveSmallMarks, IsFollowed, IsRefusalOf, IsStartRefusal, half_from, pair_of, pairs, tried_at, way_pair, ways_meet, ways_with};
 
 use crate::effort::Effort;
 use crate::fault::JoinFault;
@@ -228,9 +228,9 @@ impl Search {
         ensures only { OnOk result ((k : Pair) → Has self.new.found.keys k → Has self.old.found.keys k ⊎ (k ≡ pair)) }
         ensures last { IfOk result (λ i. (p : ℕ) → length self.old.found.keys ≤ p → p < length self.new.found.keys → i ≡ p) }
         ensures few { OnOk result (length self.new.found.keys ≤ MOST_STATES) }
-        ensures within { OnOk result ((n1 n2 : ℕ) → AreWithin n1 n2 self.old.found.keys → pair.left < n1 → pair.right < n2 → AreWithin n1 n2 self.new.found.keys) }
+        ensures within { OnOk result ((n1 n2 : ℕ) → ArePairsWithin n1 n2 self.old.found.keys → pair.left < n1 → pair.right < n2 → ArePairsWithin n1 n2 self.new.found.keys) }
         ensures ways { self.new.ways.items ≡ self.old.ways.items }
-        ensures fault { IfErr result (λ e. (n1 n2 w : ℕ) → AreWithin n1 n2 self.old.found.keys → pair.left < n1 → pair.right < n2 → IsSizeFaultWithin (n1 * n2) w e) }
+        ensures fault { IfErr result (λ e. (n1 n2 w : ℕ) → ArePairsWithin n1 n2 self.old.found.keys → pair.left < n1 → pair.right < n2 → IsSizeFaultWithin (n1 * n2) w e) }
     {
         let (number, _) = self.found.insert_full(pair)?;
         let count = self.found.len();

@@ -33,8 +33,8 @@ unset (suc n) m = zero_bit (has m n) + unset n m
 abbrev pub left : ℕ → ℕ → ℕ
 left v m = unset (2 * v) m
 
-abbrev pub AreWithin : ℕ → ℕ → Type 0
-AreWithin m n = (bit : ℕ) → has m bit ≡ true → has n bit ≡ true
+abbrev pub AreMarksWithin : ℕ → ℕ → Type 0
+AreMarksWithin m n = (bit : ℕ) → has m bit ≡ true → has n bit ≡ true
 
 -- an entry under settled markers
 abbrev pub frame : ℕ → Entry → Waiting
@@ -49,7 +49,7 @@ pub record IsWaiting (store : List NamedRow) (v : ℕ) (f : Waiting) : Type 0 wh
 -- what waits below: less and less is settled
 abbrev pub AreBelow : List NamedRow → ℕ → ℕ → List Waiting → Type 0
 AreBelow store v m [] = Unit {0}
-AreBelow store v m (f ∷ fs) = AreWithin f.settled m × (left v m < left v f.settled) × IsWaiting store v f × AreBelow store v f.settled fs
+AreBelow store v m (f ∷ fs) = AreMarksWithin f.settled m × (left v m < left v f.settled) × IsWaiting store v f × AreBelow store v f.settled fs
 
 abbrev pub AreStacked : List NamedRow → ℕ → List Waiting → Type 0
 AreStacked store v [] = Unit {0}

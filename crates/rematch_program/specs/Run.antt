@@ -28,7 +28,7 @@ use Rattle.rm_outside.specs.Change.{Change, IsQuiet, Adds, AddsPart, Failed}
 use Rattle.rematch_program.specs.Work.{Clock, Work, clock, work, StandsStill, DidNothing}
 use Rattle.rematch_program.specs.Testing.{AreAllPassing, IsPassingPageOf, PageKeeps, TrialKeeps, explain_tested}
 use Rattle.spanner_engine.specs.Begun.{AreRead, HasHeavyAtom, IsPast, IsReadWithin, KeepsOther, begin_steps, row_kept, table_weight}
-use Rattle.spanner_engine.specs.Filtering.{AreWithin}
+use Rattle.spanner_engine.specs.Filtering.{AreAtomsWithin}
 use Rattle.spanner_model.specs.Passing.{AreKnown, Check, Known, checks_of, known}
 use Rattle.query_parser.specs.Binding.{HasFaultUnder, IsOnlyTested}
 use Rattle.note_texts.specs.Outcomes.{Is, IsOutOfMemory, Reports}
@@ -131,7 +131,7 @@ pub record IsHeldWithin (filter : Bool) (q : QueryTree) (document : Text) (max_t
   pub automaton : Marked
   pub compiled : IsCompiled q automaton
   pub read : IsReadWithin automaton.graph q document filter max_table
-  pub atoms : AreWithin q document filter max_table
+  pub atoms : AreAtomsWithin q document filter max_table
 
 module _ (a : RequestView) (q : QueryTree) (checks : List Check) (w : Work) (end : Status) (note : Text) where
   -- with all that is needed: a page of the answers that pass, or the summary of them all

@@ -31,7 +31,7 @@ use Rattle.place_automaton.proofs.Ranges.{LiesFrom, places_lie}
 use Rattle.segment_filter.specs.Idling.{IsLed, LeadsOut, Passes}
 use Rattle.segment_filter.specs.Readings.{CanEnd, HasStepsOf, StepsTo, moves_on, turned}
 use Rattle.segment_filter.specs.Sets.{AreReadingsOf, MeetAt, TakesNone}
-use Rattle.segment_filter.specs.Sharing.{places_of}
+use Rattle.segment_filter.specs.Sharing.{formula_places}
 use Rattle.segment_filter.specs.Touching.{IsTouchedBy}
 use Rattle.segment_filter.proofs.PassLaws.{pass_on}
 use Rattle.segment_filter.proofs.SharingLaws.{sharing_law}
@@ -268,7 +268,7 @@ turned_none A none y h =
     sym (ap (λ (g : Way). g.marks) x.2) ∙ none x.0 (filter_cases moves_on A.ways x.0 x.1).0
 
 module _ (names : List VarName) (a : AtomTree) (seq : IsSequential a.formula) (ord : HasOrderedRepeats a.formula) (F : Automaton)
-    (same : HasStepsOf F (atom_automaton names a)) (none : TakesNone F) (most : ℕ) (is : most ≡ places_of names a.formula) where
+    (same : HasStepsOf F (atom_automaton names a)) (none : TakesNone F) (most : ℕ) (is : most ≡ formula_places names a.formula) where
   abbrev P : Places
   P = placed (opening_of names) (closing_of names) a.formula 1
 
@@ -304,10 +304,10 @@ module _ (names : List VarName) (a : AtomTree) (A : Automaton) (whole : IsWhole 
   pub plain_none : TakesNone Plain
   plain_none = remarked_none A (left_of names []) (λ m. refl)
 
-  pub plain_states : A.states ≡ 1 + places_of names a.formula + (if a.to_end then 0 else 1)
+  pub plain_states : A.states ≡ 1 + formula_places names a.formula + (if a.to_end then 0 else 1)
   plain_states = plain_steps.states
 
-  pub plain_readings : IsWellBuilt a.formula → IsSequential a.formula → (most : ℕ) → most ≡ places_of names a.formula → AreReadingsOf a Plain (turned Plain) most
+  pub plain_readings : IsWellBuilt a.formula → IsSequential a.formula → (most : ℕ) → most ≡ formula_places names a.formula → AreReadingsOf a Plain (turned Plain) most
   plain_readings built sequential most is =
       are_readings names a sequential (ordered_repeats a.formula built) Plain plain_steps plain_none most is
 
@@ -320,7 +320,7 @@ last_place false states places beyond e (inr h) = (omega (arith, e, h.1), omega 
 
 module _ (names : List VarName) (a : AtomTree) (A : Automaton) (whole : IsWhole A) (r : Rearranges A (atom_automaton names a)) where
   pub readings_made : IsWellBuilt a.formula → IsSequential a.formula → (keep : List VarName) (F R : Automaton) (most : ℕ) → keep ≡ [] → F ≡ remarked (left_of names keep) A → R ≡ turned F →
-      most ≡ places_of names a.formula → AreReadingsOf a F R most
+      most ≡ formula_places names a.formula → AreReadingsOf a F R most
   readings_made built sequential keep F R most none is back places =
       let plain : Plain names a A whole r ≡ F = sym (is ∙ ap (λ k. remarked (left_of names k) A) none) in
       let turned_plain : turned (Plain names a A whole r) ≡ R = ap turned plain ∙ sym back in

@@ -12,8 +12,8 @@ use Rattle.segment_filter.specs.Idling.{IsLed, LeadsOut}
 use Rattle.segment_filter.specs.Touching.{IsTouchedBy}
 
 -- how many places a formula has
-abbrev pub places_of : List VarName → Tree → ℕ
-places_of names f = (placed (opening_of names) (closing_of names) f 1).count
+abbrev pub formula_places : List VarName → Tree → ℕ
+formula_places names f = (placed (opening_of names) (closing_of names) f 1).count
 
 -- the atom tied to the document's start, whether it was or not
 abbrev pub from_the_start : AtomTree → AtomTree
@@ -23,7 +23,7 @@ from_the_start a = record { from_start = true; to_end = a.to_end; formula = a.fo
 -- end with no further wait in Before: that is, by the automaton of the atom tied to the start
 abbrev pub IsShared : List VarName → AtomTree → List ℕ → ℕ → Type 0
 IsShared names a d i =
-    (r : ℕ) × (r ≤ places_of names a.formula) × IsLed (atom_automaton names a) d i r × LeadsOut (atom_automaton names (from_the_start a)) d i r
+    (r : ℕ) × (r ≤ formula_places names a.formula) × IsLed (atom_automaton names a) d i r × LeadsOut (atom_automaton names (from_the_start a)) d i r
 
 -- these are the positions that the atom touches
 abbrev pub SharingLaw : Type 0

@@ -7,13 +7,13 @@ use Rattle.spanner_model.specs.Answers.{SpanRow}
 use Rattle.spanner_engine.specs.Begun.{EndsPast}
 
 -- none of the first m spans ends past n
-abbrev pub AreWithin : ℕ → ℕ → SpanRow → Type 0
-AreWithin n m row = (k : ℕ) (s : Span) → k < m → slice_get row k ≡ Some (Some s) → s.end ≤ n
+abbrev pub AreAtomsWithin : ℕ → ℕ → SpanRow → Type 0
+AreAtomsWithin n m row = (k : ℕ) (s : Span) → k < m → slice_get row k ≡ Some (Some s) → s.end ≤ n
 
 pub past_here : (n k : ℕ) (row : SpanRow) (s : Span) → slice_get row k ≡ Some (Some s) → n < s.end → EndsPast n row
 past_here n k row s at past = (s, Has-slice_get row k (Some s) at, past)
 
-pub none_past : (n : ℕ) (row : SpanRow) → AreWithin n (length row) row → EndsPast n row → ⊥
+pub none_past : (n : ℕ) (row : SpanRow) → AreAtomsWithin n (length row) row → EndsPast n row → ⊥
 none_past n row within past =
     let place = place_of-Has row (Some past.0) past.1 in
     let low : past.0.end ≤ n = within place.0 past.0 place.1 place.2 in

@@ -12,7 +12,7 @@ use Rattle.place_automaton.specs.Atom.{AreBytes}
 use Rattle.place_automaton.specs.Words.{atom_automaton}
 use Rattle.place_automaton.proofs.BuiltRepeats.{ordered_repeats}
 use Rattle.segment_filter.specs.Idling.{IsLed, LeadsOut}
-use Rattle.segment_filter.specs.Sharing.{IsShared, from_the_start, places_of}
+use Rattle.segment_filter.specs.Sharing.{IsShared, from_the_start, formula_places}
 use Rattle.spanner_engine.specs.Touching.{HasMinus, HasMinusIn, SomeAtom, SomeAtomOf, TouchedOf}
 use Rattle.segment_filter.specs.Touching.{IsTouchedBy}
 use Rattle.segment_filter.proofs.SharingLaws.{sharing_law}
@@ -27,7 +27,7 @@ decide_shared : (a : AtomTree) (d : List ℕ) (i : ℕ) → Decided (IsShared []
 decide_shared a d i =
     let A = atom_automaton [] a in
     let B = atom_automaton [] (from_the_start a) in
-    let places = places_of [] a.formula in
+    let places = formula_places [] a.formula in
     decide_same
     ((r : ℕ) × (r < suc places) × (IsLed A d i r × LeadsOut B d i r))
     (IsShared [] a d i) (

@@ -40,8 +40,8 @@ abbrev pub IsHeavy : List ℕ → ℕ → AtomTree → Type 0
 IsHeavy d limit a = limit < readings_weight a d
 
 -- with the filter, the readings of no atom of a text without differences weigh more than the limit
-abbrev pub AreWithin : QueryTree → List ℕ → Bool → ℕ → Type 0
-AreWithin q d filter limit = IsTrue filter → ¬ HasMinus q → ¬ SomeAtomOf (IsHeavy d limit) q
+abbrev pub AreAtomsWithin : QueryTree → List ℕ → Bool → ℕ → Type 0
+AreAtomsWithin q d filter limit = IsTrue filter → ¬ HasMinus q → ¬ SomeAtomOf (IsHeavy d limit) q
 
 -- to find what the atoms of the expression touch
 abbrev pub steps_in : List ℕ → ExprTree → ℕ

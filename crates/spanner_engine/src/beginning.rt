@@ -9,7 +9,7 @@ ghost use Rattle.spanner_model.specs.ExprView.{query_of};
 ghost use Rattle.query_automaton.specs.CompiledQuery.{IsCompiled};
 ghost use Rattle.spanner_engine.specs.Begun.{AreRead, IsBeginFault, IsPast, IsReadWithin, KeepsOther, begin_steps, cells_sought, counted, row_kept};
 ghost use Rattle.spanner_engine.specs.Caching.{IsCacheOf, rebuild};
-ghost use Rattle.spanner_engine.specs.Filtering.{AreWithin};
+ghost use Rattle.spanner_engine.specs.Filtering.{AreAtomsWithin};
 ghost use Rattle.spanner_engine.specs.Left.{AreLeft};
 ghost use Rattle.spanner_engine.specs.declared.beginning.BeginFault.TheVariants.{CursorOther, CursorPlace};
 
@@ -96,7 +96,7 @@ pub fn begin<L: Ledger>(
     ensures still { (kept found : ℕ) → IsErrOf result CursorPlace ⊎ IsErrOf result (CursorOther kept found) → steps.new ≡ steps.old }
     ensures fault { IfErr result (IsBeginFault (query_of compiled.now.query) doc.now options.filter (option_copied after.entry) options.limit) }
     ensures weighs { OnOk result (IsReadWithin compiled.now.automaton.graph (query_of compiled.now.query) doc.now options.filter options.limit) }
-    ensures atoms { OnOk result (AreWithin (query_of compiled.now.query) doc.now options.filter options.limit) }
+    ensures atoms { OnOk result (AreAtomsWithin (query_of compiled.now.query) doc.now options.filter options.limit) }
     ensures steps { (K : ℕ → Bool) → AreRead options.filter (query_of compiled.now.query) doc.now K →
         steps.new ≤ steps.old + begin_steps options.filter (query_of compiled.now.query) doc.now K (row_kept (option_copied after.entry)) }
 {
@@ -133,7 +133,7 @@ pub fn begin_by<L: Ledger>(
     ensures still { (kept found : ℕ) → IsErrOf result CursorPlace ⊎ IsErrOf result (CursorOther kept found) → steps.new ≡ steps.old }
     ensures fault { IfErr result (IsBeginFault (query_of query.now) doc.now options.filter (option_copied after.entry) options.limit) }
     ensures weighs { OnOk result (IsReadWithin automaton.now.graph (query_of query.now) doc.now options.filter options.limit) }
-    ensures atoms { OnOk result (AreWithin (query_of query.now) doc.now options.filter options.limit) }
+    ensures atoms { OnOk result (AreAtomsWithin (query_of query.now) doc.now options.filter options.limit) }
     ensures steps { (K : ℕ → Bool) → AreRead options.filter (query_of query.now) doc.now K →
         steps.new ≤ steps.old + begin_steps options.filter (query_of query.now) doc.now K (row_kept (option_copied after.entry)) }
 {
@@ -168,7 +168,7 @@ pub fn begin_with<L: Ledger>(
     ensures still { (kept found : ℕ) → IsErrOf result CursorPlace ⊎ IsErrOf result (CursorOther kept found) → steps.new ≡ steps.old }
     ensures fault { IfErr result (IsBeginFault (query_of query.now) doc.now options.filter (option_copied after.entry) options.limit) }
     ensures weighs { OnOk result (IsReadWithin automaton.now.graph (query_of query.now) doc.now options.filter options.limit) }
-    ensures atoms { OnOk result (AreWithin (query_of query.now) doc.now options.filter options.limit) }
+    ensures atoms { OnOk result (AreAtomsWithin (query_of query.now) doc.now options.filter options.limit) }
     ensures steps { (K : ℕ → Bool) → AreRead options.filter (query_of query.now) doc.now K →
         steps.new ≤ steps.old + rebuild cache.old.kept (counted (query_of query.now)) doc.now K
         + begin_steps options.filter (query_of query.now) doc.now K (row_kept (option_copied after.entry)) }

@@ -12,7 +12,7 @@ ghost use Rattle.spanner_model.specs.Sound.{IsSound};
 ghost use Rattle.spanner_model.specs.View.{atom_of};
 ghost use Rattle.spanner_engine.specs.Touching.{HasMinus, SomeAtom, SomeAtomOf};
 ghost use Rattle.spanner_engine.specs.Begun.{IsReadAt, filter_steps};
-ghost use Rattle.spanner_engine.specs.Filtering.{AddsTouched, AreWithin, HasFullAtom, IsFilterFault, IsHeavy, IsInSound, steps_in};
+ghost use Rattle.spanner_engine.specs.Filtering.{AddsTouched, AreAtomsWithin, HasFullAtom, IsFilterFault, IsHeavy, IsInSound, steps_in};
 
 use crate::Options;
 use crate::differences::has_minus;
@@ -35,7 +35,7 @@ pub(crate) fn positions_read<L: Ledger>(
     requires few { length doc.now ≤ 2 ^ 28 }
     requires limit { options.limit ≤ 100000000 }
     ensures read { IfOk result (λ t. (i : ℕ) → Covers t i ↔ IsReadAt options.filter (query_of query.now) doc.now i) }
-    ensures within { OnOk result (AreWithin (query_of query.now) doc.now options.filter options.limit) }
+    ensures within { OnOk result (AreAtomsWithin (query_of query.now) doc.now options.filter options.limit) }
     ensures fault { IfErr result (IsFilterFault (query_of query.now) doc.now options.filter options.limit) }
     ensures steps { steps.new ≤ steps.old + filter_steps options.filter (query_of query.now) doc.now }
 {

@@ -4,7 +4,7 @@ use Rattle.spanner_model.specs.declared.query.Query.{Query}
 use Rattle.spanner_model.specs.ExprView.{query_of}
 use Rattle.marked_automaton.specs.Automaton.{Marked}
 use Rattle.spanner_engine.specs.Begun.{AreRead, IsBeginFault, IsReadWithin, begin_steps, row_kept}
-use Rattle.spanner_engine.specs.Filtering.{AreWithin}
+use Rattle.spanner_engine.specs.Filtering.{AreAtomsWithin}
 use Rattle.spanner_engine.specs.Left.{AreLeft}
 use Rattle.spanner_engine.proofs.beginning.begin.Goals as goal
 
@@ -24,7 +24,7 @@ returns-clause-weighs g c =
 
 pub returns-clause-atoms : goal.returns-clause-atoms
 returns-clause-atoms g c =
-    subst (λ (Q : Query). OnOk c.begin_by.result (AreWithin (query_of Q) c.args.doc.now c.args.options.filter c.args.options.limit)) c.query.ensures.query c.begin_by.ensures.atoms
+    subst (λ (Q : Query). OnOk c.begin_by.result (AreAtomsWithin (query_of Q) c.args.doc.now c.args.options.filter c.args.options.limit)) c.query.ensures.query c.begin_by.ensures.atoms
 
 pub returns-clause-steps : goal.returns-clause-steps
 returns-clause-steps g c =
