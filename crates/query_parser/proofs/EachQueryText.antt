@@ -26,7 +26,7 @@ use Rattle.query_parser.specs.Spells.{SpellsQuery}
 use Rattle.query_parser.specs.Reads.{start_read}
 use Rattle.query_parser.specs.Faults.{IsReadFault, KeepsTooMany, HasFault, IsQueryText, too_long, unreadable, too_many_kept, too_many_captured, not_sound}
 use Rattle.query_parser.specs.Nest.{Nest, Move, Body, move, outermost, wants_unit, whole_query, with_unit}
-use Rattle.query_parser.specs.Step.{Next, goes, reads_atom, stops, moved, ends, step, Ends}
+use Rattle.query_parser.specs.Step.{Next, goes, reads_atom, stops, moved, ends, step, EndsReading}
 use Rattle.query_parser.specs.Step as code
 use Rattle.query_parser.specs.Laws.{IsReadOrRefused, HasQueryOrFault}
 use Rattle.query_parser.proofs.TextLaws.{Answer, ends_spelled}
@@ -83,7 +83,7 @@ atom_longer text at a q is =
     omega (arith, length-drop q text, length-drop at text, e.moves, e.within)
 
 abbrev Ended : List ℕ → ℕ → Nest → Type 0
-Ended text at n = (r : Answer) × Ends text at n r
+Ended text at n = (r : Answer) × EndsReading text at n r
 
 some_end : (fuel : ℕ) (text : List ℕ) (at : ℕ) (n : Nest) → length (drop at text) < fuel → Ended text at n
 some_end zero text at n h = absurd (omega (arith, h))

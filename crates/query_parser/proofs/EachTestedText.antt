@@ -21,7 +21,7 @@ use Rattle.query_parser.specs.Reads.{is_whole}
 use Rattle.query_parser.specs.Faults.{IsReadFault, KeepsTooMany, HasFault}
 use Rattle.query_parser.specs.Faults as plain_fault
 use Rattle.query_parser.specs.Nest.{Nest, reading_of, outermost}
-use Rattle.query_parser.specs.Step.{word_at, EndsAfter, Ends}
+use Rattle.query_parser.specs.Step.{word_at, EndsAfter, EndsReading}
 use Rattle.query_parser.specs.TokenRuns.{Run, run_ends, IsReadTo}
 use Rattle.query_parser.specs.Tested.{where_word, Placed, HasPlaced, SpellsWhere, no_test, tests_follow, SpellsTested, ends_tests, HasNoTests, of_query, without_tests, with_tests, FirstMissing, HasTestedFault, too_long, unreadable, too_many_kept, too_many_captured, not_sound, no_variable, IsTestedText}
 use Rattle.spanner_model.specs.Tested.{TestedTree}
@@ -54,7 +54,7 @@ begins_or_not text e f = by (fault_ends f)
         inl (p, n, body.0, body.1, p + 5, record { reads = run; whole = found; word = word })
     at_stop p n run last false tells = inr (no_tests_here run (ends_halts text p n (Err e) last) (where_not text p n (drop p text) false refl tells refl))
 
-    by : Ends text 0 outermost (Err e) → Begins text ⊎ HasNoTests text
+    by : EndsReading text 0 outermost (Err e) → Begins text ⊎ HasNoTests text
     by (steps, ends) = let (p, n, run, last) = ends_run steps text 0 outermost (Err e) ends in at_stop p n run last _ refl
 
 -- ---- each reading of tests ends

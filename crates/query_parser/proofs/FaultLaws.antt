@@ -10,7 +10,7 @@ use Rattle.query_parser.specs.Reads.{Reading, Refusal, unexpected, next, is_whol
 use Rattle.query_parser.specs.Reads as reads
 use Rattle.query_parser.specs.Faults.{refused, IsReadFault, bad_atom, atom_out_of_place, token_refused, no_token, not_whole, KeepsTooMany}
 use Rattle.query_parser.specs.Nest.{Nest, Move, Body, Last, Frame, at_start, at_unit, unit, move, mark_of, reading_of, outermost, wants_unit, whole_query, ends_body, with_unit}
-use Rattle.query_parser.specs.Step.{reads_atom, stops, moved, ends, step, EndsAfter, Ends}
+use Rattle.query_parser.specs.Step.{reads_atom, stops, moved, ends, step, EndsAfter, EndsReading}
 use Rattle.query_parser.specs.Step as code
 use Rattle.query_parser.proofs.MoveLaws.{seen, shape}
 use Rattle.query_parser.proofs.TextLaws.{Answer, at_end}
@@ -47,7 +47,7 @@ next_of n r t e = shape t n ∙ ap (λ (s : Reading). next s.mark s t) e
 
 -- what was read leaves a nest, and the reading goes on from there
 abbrev pub Reached : List ℕ → ℕ → Reading → Type 0
-Reached text p r = (n : Nest) × (reading_of n ≡ r) × ((s : Answer) → Ends text p n s → Ends text 0 outermost s)
+Reached text p r = (n : Nest) × (reading_of n ≡ r) × ((s : Answer) → EndsReading text p n s → EndsReading text 0 outermost s)
 
 pub reached : {text : List ℕ} {p : ℕ} {r : Reading} → ReadsQuery text p r → Reached text p r
 reached start_read = (outermost, refl, λ s e. e)
@@ -56,8 +56,8 @@ reached {text = text} (blank_read {p = p} d at) =
 reached {text = text} (token_read {p = p} {q = q} {r = r} {s = s} {t = t} d at is) =
     let (n, e, go) = reached d in by n go (move t n) refl (next_of n r t e ∙ is)
   where
-    by : (n : Nest) → ((a : Answer) → Ends text p n a → Ends text 0 outermost a) → (found : Move) → move t n ≡ found → seen found ≡ Ok s →
-        (m : Nest) × (reading_of m ≡ s) × ((a : Answer) → Ends text q m a → Ends text 0 outermost a)
+    by : (n : Nest) → ((a : Answer) → EndsReading text p n a → EndsReading text 0 outermost a) → (found : Move) → move t n ≡ found → seen found ≡ Ok s →
+        (m : Nest) × (reading_of m ≡ s) × ((a : Answer) → EndsReading text q m a → EndsReading text 0 outermost a)
     by n go (Ok m) f same = let here : reading_of m ≡ s = cc in (m, here, λ a x. go a (token_ends text p q t n m a at f x))
     by n go (Err why) f same = absurd (cc)
 
@@ -85,7 +85,7 @@ not_found n e = by (whole_query n) refl e
     by None f e = f
     by (Some b) f e = absurd (cc)
 
-pub fault_ends : {text : List ℕ} {e : QueryFault} → IsReadFault text e → Ends text 0 outermost (Err e)
+pub fault_ends : {text : List ℕ} {e : QueryFault} → IsReadFault text e → EndsReading text 0 outermost (Err e)
 fault_ends {text = text} (bad_atom {p = p} {r = r} {e = e} d (rest, stands) w fault) =
     let (n, same, go) = reached d in
     go (Err (Formula e)) (zero, inr (ap (λ t. step p t n) stands ∙ wanted p n (wants_of n r same ∙ w), (e, fault, refl)))
@@ -161,16 +161,16 @@ ends_whole (suc steps) text p n b d (inr (is, (a, q, m, found, moves, rest))) =
     ends_whole steps text q m b (next_read n m d (atom_at (atom_due text p n is).0 found) moves) rest
 
 -- a text whose projections keep too many names is read so, and the other way round
-pub kept_ends : (text : List ℕ) → KeepsTooMany text → (q : QueryTree) × Ends text 0 outermost (Ok (q, true))
+pub kept_ends : (text : List ℕ) → KeepsTooMany text → (q : QueryTree) × EndsReading text 0 outermost (Ok (q, true))
 kept_ends text (p, r, d, here, w, many) =
     let (n, same, go) = reached d in by n go (whole_query n) refl (whole_of n r same ∙ w) (ap (λ (s : Reading). s.many) same ∙ many)
   where
-    by : (n : Nest) → ((s : Answer) → Ends text p n s → Ends text 0 outermost s) → (found : Option Body) → whole_query n ≡ found → is_found found ≡ true → n.many ≡ true →
-        (q : QueryTree) × Ends text 0 outermost (Ok (q, true))
+    by : (n : Nest) → ((s : Answer) → EndsReading text p n s → EndsReading text 0 outermost s) → (found : Option Body) → whole_query n ≡ found → is_found found ≡ true → n.many ≡ true →
+        (q : QueryTree) × EndsReading text 0 outermost (Ok (q, true))
     by n go None f e h = absurd (cc)
     by n go (Some b) f e h =
         let is : b.1 ≡ true = whole_many n.lets n.many n.top n.below n.current n.last b f ∙ h in
         (b.0, go (Ok (b.0, true)) (zero, inl (ap (λ t. step p t n) here ∙ ap (ends p) f ∙ ap (λ c. stops (Ok (b.0, c))) is)))
 
-pub ends_kept : (text : List ℕ) (q : QueryTree) → Ends text 0 outermost (Ok (q, true)) → KeepsTooMany text
+pub ends_kept : (text : List ℕ) (q : QueryTree) → EndsReading text 0 outermost (Ok (q, true)) → KeepsTooMany text
 ends_kept text q (steps, e) = ends_whole steps text 0 outermost (q, true) start_read e

@@ -5,7 +5,7 @@ use Rattle.formula_parser.proofs.AtomLaws.{one_tree, no_tree_with_fault, one_fau
 use Rattle.query_parser.specs.declared.fault.QueryFault.TheVariants.{Formula}
 use Rattle.query_parser.specs.Tokens.{atom_token}
 use Rattle.query_parser.specs.Nest.{Nest, Move, Body, move, outermost}
-use Rattle.query_parser.specs.Step.{EndsAfter, Ends}
+use Rattle.query_parser.specs.Step.{EndsAfter, EndsReading}
 use Rattle.query_parser.specs.Laws.{HasOneQuery, HasNoQueryWithReadFault, HasOneReadFault}
 use Rattle.query_parser.proofs.TextLaws.{Answer, spelled_ends}
 use Rattle.query_parser.proofs.FaultLaws.{fault_ends, kept_ends}
@@ -38,7 +38,7 @@ one_end (suc k) (suc l) text at n r s (inr (a, (t, q, m, found, moves, x))) (inr
     let same : m ≡ m' = cc in
     one_end k l text q m r s x (subst (λ z. EndsAfter l text z m s) (sym same_place) (subst (λ z. EndsAfter l text q' z s) (sym same) y))
 
-pub same_answer : (text : List ℕ) (r s : Answer) → Ends text 0 outermost r → Ends text 0 outermost s → r ≡ s
+pub same_answer : (text : List ℕ) (r s : Answer) → EndsReading text 0 outermost r → EndsReading text 0 outermost s → r ≡ s
 same_answer text r s (k, a) (l, b) = one_end k l text 0 outermost r s a b
 
 pub one_query : HasOneQuery
@@ -51,7 +51,7 @@ pub no_query_with_read_fault : HasNoQueryWithReadFault
 no_query_with_read_fault text q a =
     ((λ e d. let same = same_answer text (Ok (q, false)) (Err e) (spelled_ends text q a) (fault_ends d) in absurd (cc)), (λ k. by (kept_ends text k)))
   where
-    by : (p : QueryTree) × Ends text 0 outermost (Ok (p, true)) → ⊥
+    by : (p : QueryTree) × EndsReading text 0 outermost (Ok (p, true)) → ⊥
     by (p, e) =
         let same : ◌≡◌ {A = Answer} (Ok (p, true)) (Ok (q, false)) = same_answer text (Ok (p, true)) (Ok (q, false)) e (spelled_ends text q a) in
         let pair : ◌≡◌ {A = Body} (p, true) (q, false) = cc in
@@ -61,5 +61,5 @@ pub one_read_fault : HasOneReadFault
 one_read_fault text e a =
     ((λ d b. let same : ◌≡◌ {A = Answer} (Err e) (Err d) = same_answer text (Err e) (Err d) (fault_ends a) (fault_ends b) in cc), (λ k. by (kept_ends text k)))
   where
-    by : (p : QueryTree) × Ends text 0 outermost (Ok (p, true)) → ⊥
+    by : (p : QueryTree) × EndsReading text 0 outermost (Ok (p, true)) → ⊥
     by (p, b) = let same = same_answer text (Ok (p, true)) (Err e) b (fault_ends a) in absurd (cc)

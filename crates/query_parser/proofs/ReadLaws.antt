@@ -10,7 +10,7 @@ use Rattle.spanner_model.specs.Answer.{vars_of_lets}
 use Rattle.formula_parser.specs.declared.fault.FormulaFault.TheVariants as formula_fault
 use Rattle.formula_parser.proofs.AtomLaws.{fault_memory}
 use Rattle.query_parser.specs.Nest.{outermost}
-use Rattle.query_parser.specs.Step.{Ends}
+use Rattle.query_parser.specs.Step.{EndsReading}
 use Rattle.query_parser.specs.Turn.{AnswersBody}
 use Rattle.query_parser.specs.Reads.{start_read}
 use Rattle.query_parser.proofs.FaultLaws.{ends_fault, ends_kept}
@@ -28,7 +28,7 @@ use Rattle.query_parser.specs.declared.fault.QueryFault.TheVariants.{Formula, Ch
 use Rattle.query_parser.specs.Reads.{Refusal, unexpected, name_too_long, name_twice, unknown_name, too_deep}
 use Rattle.query_parser.specs.TreeFaults.{OwnFault, InnerFault, IsExprFault, IsFaultUnder, IsTreeFault}
 use Rattle.query_parser.specs.Faults.{refused, IsReadFault, bad_atom, atom_out_of_place, token_refused, no_token, not_whole, HasFault, too_long, unreadable, too_many_kept, too_many_captured, not_sound, IsQueryText}
-use Rattle.query_parser.specs.Answers.{IsAnswer, IsRead}
+use Rattle.query_parser.specs.Answers.{IsQueryAnswer, IsRead}
 use Rattle.query_parser.proofs.GrammarLaws.{one_query}
 use Rattle.query_parser.proofs.QueryLaws.{no_query_with_fault, one_fault}
 
@@ -116,7 +116,7 @@ read_never text (Err e) (inl is) = λ same. out (sym is ∙ same)
 read_never text (Err e) (inr f) = never_memory f
 
 -- a fault that is answered
-answer_err : (e : QueryFault) (r : Result QueryTree QueryFault) → r ≡ Err e → IsAnswer (Err e) r
+answer_err : (e : QueryFault) (r : Result QueryTree QueryFault) → r ≡ Err e → IsQueryAnswer (Err e) r
 answer_err OutOfMemory r h = tt
 answer_err (Formula x) r h = h
 answer_err (Check x) r h = h
@@ -133,15 +133,15 @@ answer_err (UnknownTest x) r h = h
 answer_err (TestVariable x) r h = h
 answer_err (MinusVariables x) r h = h
 
-answer_memory : (e : QueryFault) (r : Result QueryTree QueryFault) → e ≡ OutOfMemory → IsAnswer (Err e) r
-answer_memory e r is = subst (λ d. IsAnswer (Err d) r) (sym is) tt
+answer_memory : (e : QueryFault) (r : Result QueryTree QueryFault) → e ≡ OutOfMemory → IsQueryAnswer (Err e) r
+answer_memory e r is = subst (λ d. IsQueryAnswer (Err d) r) (sym is) tt
 
-pub read_only : (text : List ℕ) (r : Result Query QueryFault) → IsRead text r → (q : QueryTree) → IsQueryText text q → IsAnswer r (Ok q)
+pub read_only : (text : List ℕ) (r : Result Query QueryFault) → IsRead text r → (q : QueryTree) → IsQueryText text q → IsQueryAnswer r (Ok q)
 read_only text (Ok p) h q is = ap (λ (t : QueryTree). Ok t) (one_query text q (query_of p) is.1 h.1)
 read_only text (Err e) (inl m) q is = answer_memory e (Ok q) m
 read_only text (Err e) (inr f) q is = absurd (no_query_with_fault text q e is f)
 
-pub read_only_fault : (text : List ℕ) (r : Result Query QueryFault) → IsRead text r → (e : QueryFault) → HasFault text e → IsAnswer r (Err e)
+pub read_only_fault : (text : List ℕ) (r : Result Query QueryFault) → IsRead text r → (e : QueryFault) → HasFault text e → IsQueryAnswer r (Err e)
 read_only_fault text (Ok q) h e f = absurd (no_query_with_fault text (query_of q) e h f)
 read_only_fault text (Err d) (inl m) e f = answer_memory d (Err e) m
 read_only_fault text (Err d) (inr g) e f = answer_err d (Err e) (ap (λ (x : QueryFault). Err x) (one_fault text e d f g))
@@ -166,19 +166,19 @@ answers_err (TestVariable x) P h = inr h
 answers_err (MinusVariables x) P h = inr h
 
 -- reading met a fault
-pub read_stopped : (text : List ℕ) (e : QueryFault) → length text ≤ MOST_TEXT_BYTES → AnswersBody (Err e) (Ends text 0 outermost) → IsRead text (Err e)
-read_stopped text e short h = elim (answers_err e (Ends text 0 outermost) h) [
+pub read_stopped : (text : List ℕ) (e : QueryFault) → length text ≤ MOST_TEXT_BYTES → AnswersBody (Err e) (EndsReading text 0 outermost) → IsRead text (Err e)
+read_stopped text e short h = elim (answers_err e (EndsReading text 0 outermost) h) [
   | inl is ↦ inl is
   | inr (steps, ends) ↦ inr (unreadable short (ends_fault steps text 0 outermost e start_read ends))
 ]
 
 -- reading met the end, and a projection keeps too many names
-pub kept_fault : (text : List ℕ) (q : QueryTree) (many : Bool) → length text ≤ MOST_TEXT_BYTES → Ends text 0 outermost (Ok (q, many)) → many ≡ true → IsRead text (Err TooManyVariables)
+pub kept_fault : (text : List ℕ) (q : QueryTree) (many : Bool) → length text ≤ MOST_TEXT_BYTES → EndsReading text 0 outermost (Ok (q, many)) → many ≡ true → IsRead text (Err TooManyVariables)
 kept_fault text q false short ends is = absurd (cc)
 kept_fault text q true short ends is = inr (too_many_kept short (ends_kept text q ends))
 
 -- reading met the end, and no projection does
-pub kept_spelled : (text : List ℕ) (q : QueryTree) (many : Bool) → Ends text 0 outermost (Ok (q, many)) → many ≡ false → SpellsQuery text q
+pub kept_spelled : (text : List ℕ) (q : QueryTree) (many : Bool) → EndsReading text 0 outermost (Ok (q, many)) → many ≡ false → SpellsQuery text q
 kept_spelled text q true ends is = absurd (cc)
 kept_spelled text q false ends is = ends_spelled text q ends
 

@@ -16,7 +16,7 @@ use Rattle.query_parser.specs.declared.fault.QueryFault.TheVariants.{Unexpected}
 use Rattle.query_parser.specs.Tokens.{Token, atom_token, equals, semicolon, open_paren, close_paren, comma, word_token, sign_token, is_blank, IsStray, IsWordAt, TokenAt, atom_at, word_at, sign_at, BlankAt}
 use Rattle.query_parser.specs.Reads.{unexpected}
 use Rattle.query_parser.specs.Nest.{Nest, Move, Body, move, wants_unit, whole_query, with_unit}
-use Rattle.query_parser.specs.Step.{Next, goes, reads_atom, stops, moved, signs, ends, words, step, Ends}
+use Rattle.query_parser.specs.Step.{Next, goes, reads_atom, stops, moved, signs, ends, after_word, step, EndsReading}
 use Rattle.query_parser.specs.Step as code
 
 -- what a byte begins
@@ -55,7 +55,7 @@ start_no_blank c e = (grind (arith, nat_tests), grind (arith, nat_tests))
 
 abbrev by_tests : Bool → Bool → Bool → ℕ → List ℕ → ℕ → Nest → Next
 by_tests b s w at t c n =
-    if b then goes 1 n else if s then slashes at n else if w then words at (code.word_at (c ∷ t)) n else signs at (sign_token c) n
+    if b then goes 1 n else if s then slashes at n else if w then after_word at (code.word_at (c ∷ t)) n else signs at (sign_token c) n
 
 tests : (b s w : Bool) (at c : ℕ) (t : List ℕ) (n : Nest) → is_blank c ≡ b → (c == 47) ≡ s → is_name_start c ≡ w →
     step at (c ∷ t) n ≡ by_tests b s w at t c n
@@ -65,7 +65,7 @@ tests b s w at c t n e f g =
 pub blank_step : (at c : ℕ) (t : List ℕ) (n : Nest) → is_blank c ≡ true → step at (c ∷ t) n ≡ goes 1 n
 blank_step at c t n e = ap (λ b. by_tests b (c == 47) (is_name_start c) at t c n) e
 
-pub word_step : (at c : ℕ) (t : List ℕ) (n : Nest) → is_name_start c ≡ true → step at (c ∷ t) n ≡ words at (code.word_at (c ∷ t)) n
+pub word_step : (at c : ℕ) (t : List ℕ) (n : Nest) → is_name_start c ≡ true → step at (c ∷ t) n ≡ after_word at (code.word_at (c ∷ t)) n
 word_step at c t n e = let none = start_no_blank c e in tests false false true at c t n none.0 none.1 e
 
 -- the signs
@@ -125,11 +125,11 @@ stray_step at c s n (b, d, w, e) =
     tests false false false at c s n b (grind (arith, nat_tests)) w ∙ ap (λ f. signs at f n) e
 
 -- a step, and then the others
-pub ends_more : (text : List ℕ) (at len : ℕ) (n m : Nest) (r : Result Body QueryFault) → step at (drop at text) n ≡ goes len m → Ends text (at + len) m r → Ends text at n r
+pub ends_more : (text : List ℕ) (at len : ℕ) (n m : Nest) (r : Result Body QueryFault) → step at (drop at text) n ≡ goes len m → EndsReading text (at + len) m r → EndsReading text at n r
 ends_more text at len n m r is (steps, e) = (suc steps, inl (len, m, is, e))
 
 pub ends_atom : (text : List ℕ) (at q : ℕ) (a : AtomTree) (n m : Nest) (r : Result Body QueryFault) → step at (drop at text) n ≡ reads_atom →
-    IsAtomAt text at (a, q) → move (atom_token a) n ≡ Ok m → Ends text q m r → Ends text at n r
+    IsAtomAt text at (a, q) → move (atom_token a) n ≡ Ok m → EndsReading text q m r → EndsReading text at n r
 ends_atom text at q a n m r is found moves (steps, e) = (suc steps, inr (is, (a, q, m, found, moves, e)))
 
 pub at_blank : (text : List ℕ) (at : ℕ) (n : Nest) → BlankAt text at → step at (drop at text) n ≡ goes 1 n
@@ -166,10 +166,10 @@ pub wanted : (at : ℕ) (n : Nest) → wants_unit n.last ≡ true → slashes at
 wanted at n w = ap (λ b. if b then reads_atom else stops (Err (Unexpected at))) w
 
 -- a token that may come next
-pub token_ends : (text : List ℕ) (at q : ℕ) (t : Token) (n m : Nest) (r : Result Body QueryFault) → TokenAt text at t q → move t n ≡ Ok m → Ends text q m r → Ends text at n r
+pub token_ends : (text : List ℕ) (at q : ℕ) (t : Token) (n m : Nest) (r : Result Body QueryFault) → TokenAt text at t q → move t n ≡ Ok m → EndsReading text q m r → EndsReading text at n r
 token_ends text at q t n m r is moves e = by (token_steps is) moves e
   where
-    by : {u : Token} {p : ℕ} → Steps text at u p → move u n ≡ Ok m → Ends text p m r → Ends text at n r
+    by : {u : Token} {p : ℕ} → Steps text at u p → move u n ≡ Ok m → EndsReading text p m r → EndsReading text at n r
     by (by_atom {a = a} {q = p} does found) moves e =
         ends_atom text at p a n m r (does n ∙ wanted at n (atom_wanted a n m moves)) found moves e
     by (by_move len does) moves e = ends_more text at len n m r (does n ∙ ap (moved at len) moves) e

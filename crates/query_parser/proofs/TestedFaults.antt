@@ -15,7 +15,7 @@ use Rattle.query_parser.specs.Reads.{Reading, is_whole}
 use Rattle.query_parser.specs.Faults.{IsReadFault}
 use Rattle.query_parser.specs.TreeFaults.{IsTreeFault}
 use Rattle.query_parser.specs.Nest.{Nest, Body, reading_of, outermost, whole_query}
-use Rattle.query_parser.specs.Step.{Ends}
+use Rattle.query_parser.specs.Step.{EndsReading}
 use Rattle.query_parser.specs.TokenRuns.{Run, query_step}
 use Rattle.query_parser.specs.Tested.{where_word, ReadsTests, ends_tests, HasNoTests, IsTestedReadFault, IsReadWhole, without_tests, with_tests, FirstMissing, HasTestedFault, too_long, unreadable, too_many_kept, too_many_captured, not_sound, no_variable, IsTestedText}
 use Rattle.spanner_model.specs.Tested.{TestedTree}
@@ -51,7 +51,7 @@ tests_one {text = text} {asked = asked} {others = others} (e, run, here) (g, mor
 abbrev pub IsOne : QueryTree → Bool → List Asked → QueryTree → Bool → List Asked → Type 0
 IsOne q a asked r b others = ◌≡◌ {A = Body} (q, a) (r, b) × (asked ≡ others)
 
-begin_no_end : {text : List ℕ} {p after : ℕ} {n : Nest} {q : QueryTree} {many : Bool} {b : Body} → TestsBegin text p n q many after → Ends text 0 outermost (Ok b) → ⊥
+begin_no_end : {text : List ℕ} {p after : ℕ} {n : Nest} {q : QueryTree} {many : Bool} {b : Body} → TestsBegin text p n q many after → EndsReading text 0 outermost (Ok b) → ⊥
 begin_no_end {text = text} {p = p} {b = b} x e = let same = same_answer text (Ok b) (Err (Unexpected p)) e (begins_ends (begin_begins x)) in absurd (cc)
 
 pub one_reading : {text : List ℕ} {q r : QueryTree} {a b : Bool} {asked others : List Asked} → IsReadAs text q a asked → IsReadAs text r b others → IsOne q a asked r b others

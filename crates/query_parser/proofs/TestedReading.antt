@@ -14,7 +14,7 @@ use Rattle.query_parser.specs.Reads.{Mark, Reading, unexpected, next, is_whole, 
 use Rattle.query_parser.specs.Reads as reads
 use Rattle.query_parser.specs.Faults.{token_refused}
 use Rattle.query_parser.specs.Nest.{Nest, Move, Body, Last, unit, mark_of, reading_of, outermost, move, moves_name, whole_query}
-use Rattle.query_parser.specs.Step.{step, goes, reads_atom, moved, EndsAfter, Ends}
+use Rattle.query_parser.specs.Step.{step, goes, reads_atom, moved, EndsAfter, EndsReading}
 use Rattle.query_parser.specs.Turn.{IsTurn}
 use Rattle.query_parser.specs.TokenRuns.{Run, run_ends, run_blank, run_token, query_step, IsReadTo}
 use Rattle.query_parser.specs.Tested.{where_word, Placed, HasPlaced, SpellsTests, SpellsWhere, no_test, tests_follow, SpellsTested, BeginsTests, HasNoTests}
@@ -52,7 +52,7 @@ read_run {text = text} (reads.token_read {p = p} {q = q} {r = r} {s = s} {t = t}
     by n run (Err why) f same = absurd (cc)
 
 -- a reading goes on from where a run ends
-pub run_goes : {text : List ℕ} {p e : ℕ} {n m : Nest} → Run query_step text p n e m → (r : Answer) → Ends text e m r → Ends text p n r
+pub run_goes : {text : List ℕ} {p e : ℕ} {n m : Nest} → Run query_step text p n e m → (r : Answer) → EndsReading text e m r → EndsReading text p n r
 run_goes run_ends r x = x
 run_goes {text = text} {p = p} {n = n} (run_blank at run) r x = ends_more text p 1 n n r (at_blank text p n at) (run_goes run r x)
 run_goes {text = text} {p = p} {n = n} (run_token {q = q} {k = k} {t = t} at moves run) r x = token_ends text p q t n k r at moves (run_goes run r x)
@@ -130,7 +130,7 @@ where_halts {text = text} {p = p} n w word = (
 )
 
 -- with an unexpected word, as far as the query is concerned
-pub begins_ends : {text : List ℕ} {p after : ℕ} {r : Reading} → BeginsTests text p r after → Ends text 0 outermost (Err (Unexpected p))
+pub begins_ends : {text : List ℕ} {p after : ℕ} {r : Reading} → BeginsTests text p r after → EndsReading text 0 outermost (Err (Unexpected p))
 begins_ends {r = r} b = fault_ends (token_refused b.reads b.word (where_out r.mark r.opened r.current r b.whole))
 
 -- no tests begin where the reading of the query stops elsewhere

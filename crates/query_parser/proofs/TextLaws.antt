@@ -9,7 +9,7 @@ use Rattle.query_parser.specs.declared.fault.QueryFault.TheVariants.{Unexpected}
 use Rattle.query_parser.specs.Tokens.{Token, atom_token, let_word, union_word, join_word, project_word, none_word, name_token, word_token, TokenAt, atom_at, word_at, sign_at, HasTokens, text_ends, blank_first, token_first}
 use Rattle.query_parser.specs.Spells.{SpellsQuery}
 use Rattle.query_parser.specs.Nest.{Nest, Move, Body, move, outermost, wants_unit, whole_query}
-use Rattle.query_parser.specs.Step.{reads_atom, stops, moved, ends, step, EndsAfter, Ends}
+use Rattle.query_parser.specs.Step.{reads_atom, stops, moved, ends, step, EndsAfter, EndsReading}
 use Rattle.query_parser.specs.Step as code
 use Rattle.query_parser.proofs.Lists.{eq_true}
 use Rattle.query_parser.proofs.SpelledMoves.{Runs, reads_query}
@@ -20,7 +20,7 @@ abbrev pub Answer : Type 0
 Answer = Result Body QueryFault
 
 -- the tokens of a text are read
-pub tokens_end : {text : List ℕ} {p : ℕ} {ts : List Token} → HasTokens text p ts → (n m : Nest) (b : Body) → Runs n ts m → whole_query m ≡ Some b → Ends text p n (Ok b)
+pub tokens_end : {text : List ℕ} {p : ℕ} {ts : List Token} → HasTokens text p ts → (n m : Nest) (b : Body) → Runs n ts m → whole_query m ≡ Some b → EndsReading text p n (Ok b)
 tokens_end {text = text} {p = p} (text_ends is) n m b e whole =
     (zero, inl (ap (λ t. step p t n) is ∙ ap (ends p) (ap whole_query e ∙ whole)))
 tokens_end {text = text} {p = p} (blank_first at ts) n m b run whole = ends_more text p 1 n n (Ok b) (at_blank text p n at) (tokens_end ts n m b run whole)
@@ -118,10 +118,10 @@ end_tokens (suc steps) text p n b (inr (is, (a, q, k, found, moves, rest))) =
     (atom_token a ∷ ts, m, token_first (atom_at stands found) has, (k, moves, run), whole)
 
 -- what spells a query is read, and what is read spells one
-pub spelled_ends : (text : List ℕ) (q : QueryTree) → SpellsQuery text q → Ends text 0 outermost (Ok (q, false))
+pub spelled_ends : (text : List ℕ) (q : QueryTree) → SpellsQuery text q → EndsReading text 0 outermost (Ok (q, false))
 spelled_ends text q (ts, has, spelled) = let (m, run, whole) = reads_query ts q spelled in tokens_end has outermost m (q, false) run whole
 
-pub ends_spelled : (text : List ℕ) (q : QueryTree) → Ends text 0 outermost (Ok (q, false)) → SpellsQuery text q
+pub ends_spelled : (text : List ℕ) (q : QueryTree) → EndsReading text 0 outermost (Ok (q, false)) → SpellsQuery text q
 ends_spelled text q (steps, e) =
     let (ts, m, has, run, whole) = end_tokens steps text 0 outermost (q, false) e in
     (ts, has, spelled_query ts m q (tokens_proper has) run whole)

@@ -7,7 +7,7 @@ use Rattle.query_parser.specs.Tokens.{Token, atom_token, TokenAt, atom_at, word_
 use Rattle.spanner_model.specs.Expression.{AtomTree, atom}
 use Rattle.query_parser.specs.Reads.{unexpected}
 use Rattle.query_parser.specs.Nest.{Nest, move, with_unit, wants_unit}
-use Rattle.query_parser.specs.Step.{step, Ends}
+use Rattle.query_parser.specs.Step.{step, EndsReading}
 use Rattle.query_parser.specs.Turn.{IsTurn, IsEnd, AnswersBody}
 use Rattle.formula_parser.proofs.AtomLaws.{atom_ends}
 use Rattle.query_parser.proofs.TextLaws.{Answer}
@@ -37,13 +37,13 @@ pub atom_moves : (a : AtomTree) (n : Nest) → wants_unit n.last ≡ true → mo
 atom_moves a n w = ap (λ b. if b then Ok (with_unit (atom a) n) else Err unexpected) w
 
 -- a turn, and then the others
-pub turn_on : (text : List ℕ) (at len : ℕ) (n m : Nest) (r : Answer) → IsTurn (Ok len) text at n m → Ends text (at + len) m r → Ends text at n r
+pub turn_on : (text : List ℕ) (at len : ℕ) (n m : Nest) (r : Answer) → IsTurn (Ok len) text at n m → EndsReading text (at + len) m r → EndsReading text at n r
 turn_on text at len n m r (inl is) e = ends_more text at len n m r is e
 turn_on text at len n m r (inr (is, (a, found, same))) e =
     ends_atom text at (at + len) a n m r is found (atom_moves a n (atom_due text at n is).1 ∙ ap (λ k. Ok k) (sym same)) e
 
 -- a fault of a turn is the answer
-pub turn_fails : (text : List ℕ) (at : ℕ) (n m : Nest) (e : QueryFault) (P : Answer → Type 0) → IsTurn (Err e) text at n m → ((r : Answer) → Ends text at n r → P r) →
+pub turn_fails : (text : List ℕ) (at : ℕ) (n m : Nest) (e : QueryFault) (P : Answer → Type 0) → IsTurn (Err e) text at n m → ((r : Answer) → EndsReading text at n r → P r) →
     AnswersBody (Err e) P
 turn_fails text at n m OutOfMemory P is next = tt
 turn_fails text at n m e P (inl is) next = next (Err e) (zero, inl is)
@@ -51,7 +51,7 @@ turn_fails text at n m e P (inr (is, (f, fault, same))) next = next (Err e) (zer
 
 -- the answer at the text's end
 pub end_answers : (text : List ℕ) (at : ℕ) (n : Nest) (r : Result (Query × Bool) QueryFault) (P : Answer → Type 0) → drop at text ≡ [] → IsEnd r (step at [] n) →
-    ((s : Answer) → Ends text at n s → P s) → AnswersBody r P
+    ((s : Answer) → EndsReading text at n s → P s) → AnswersBody r P
 end_answers text at n (Ok x) P here is next = next _ (zero, inl (ap (λ t. step at t n) here ∙ is))
 end_answers text at n (Err OutOfMemory) P here is next = tt
 end_answers text at n (Err e) P here is next = next (Err e) (zero, inl (ap (λ t. step at t n) here ∙ is))

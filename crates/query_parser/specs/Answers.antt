@@ -8,10 +8,10 @@ use Rattle.query_parser.specs.declared.fault.QueryFault.TheVariants.{OutOfMemory
 use Rattle.query_parser.specs.Faults.{HasFault, IsQueryText}
 
 -- this query, or this fault, where memory lasts
-abbrev pub IsAnswer : Result Query QueryFault → Result QueryTree QueryFault → Type 0
-IsAnswer (Err OutOfMemory) r = Unit {0}
-IsAnswer (Ok q) r = r ≡ Ok (query_of q)
-IsAnswer (Err e) r = r ≡ Err e
+abbrev pub IsQueryAnswer : Result Query QueryFault → Result QueryTree QueryFault → Type 0
+IsQueryAnswer (Err OutOfMemory) r = Unit {0}
+IsQueryAnswer (Ok q) r = r ≡ Ok (query_of q)
+IsQueryAnswer (Err e) r = r ≡ Err e
 
 -- what the code answers is the text's: its one query, or its one fault, where memory lasts
 abbrev pub IsRead : List ℕ → Result Query QueryFault → Type 0

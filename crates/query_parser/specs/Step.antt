@@ -35,15 +35,15 @@ ends at (Some b) = stops (Ok b)
 abbrev pub word_at : List ℕ → List ℕ
 word_at t = take_while is_name_byte t
 
-abbrev pub words : ℕ → List ℕ → Nest → Next
-words at x n = moved at (length x) (move (word_token x) n)
+abbrev pub after_word : ℕ → List ℕ → Nest → Next
+after_word at x n = moved at (length x) (move (word_token x) n)
 
 abbrev pub step : ℕ → List ℕ → Nest → Next
 step at [] n = ends at (whole_query n)
 step at (c ∷ t) n =
     if is_blank c then goes 1 n
     else if c == 47 then (if wants_unit n.last then reads_atom else stops (Err (Unexpected at)))
-    else if is_name_start c then words at (word_at (c ∷ t)) n
+    else if is_name_start c then after_word at (word_at (c ∷ t)) n
     else signs at (sign_token c) n
 
 -- After so many steps more the reading of the text from the place `at` on ends with r.
@@ -56,5 +56,5 @@ EndsAfter (suc steps) text at n r =
     ⊎ ((step at (drop at text) n ≡ reads_atom)
     × ((a : AtomTree) × (q : ℕ) × (m : Nest) × IsAtomAt text at (a, q) × (move (atom_token a) n ≡ Ok m) × EndsAfter steps text q m r))
 
-abbrev pub Ends : List ℕ → ℕ → Nest → Result Body QueryFault → Type 0
-Ends text at n r = (steps : ℕ) × EndsAfter steps text at n r
+abbrev pub EndsReading : List ℕ → ℕ → Nest → Result Body QueryFault → Type 0
+EndsReading text at n r = (steps : ℕ) × EndsAfter steps text at n r

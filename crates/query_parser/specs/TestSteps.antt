@@ -11,7 +11,7 @@ use Rattle.query_parser.specs.Tokens.{Token, name_token, open_paren, close_paren
 use Rattle.query_parser.specs.Reads.{Refusal, unexpected, name_too_long}
 use Rattle.query_parser.specs.Faults.{refused}
 use Rattle.query_parser.specs.Nest.{Nest, whole_query}
-use Rattle.query_parser.specs.Step.{word_at, Ends}
+use Rattle.query_parser.specs.Step.{word_at, EndsReading}
 use Rattle.query_parser.specs.Nest.{outermost}
 use Rattle.query_parser.specs.TokenRuns.{Run, IsReadTo}
 use Rattle.query_parser.specs.Tested.{asked_of, where_word, TestMark, ends_tests}
@@ -126,5 +126,5 @@ StopsFrom text p fault = (e : ℕ) × (s : TestsRead) × Run test_move text p no
 
 -- the text is read to its end: this is its query, and these are its tests
 pub data IsReadAs (text : List ℕ) (q : QueryTree) (many : Bool) : List Asked → Type 0 where
-  without_where : Ends text 0 outermost (Ok (q, many)) → IsReadAs text q many []
+  without_where : EndsReading text 0 outermost (Ok (q, many)) → IsReadAs text q many []
   with_where : {p after : ℕ} {n : Nest} {asked : List Asked} → TestsBegin text p n q many after → HasTestsFrom text after asked → IsReadAs text q many asked

@@ -4,10 +4,10 @@ ghost use Rattle.formula_parser.specs.declared.fault.FormulaFault.TheVariants as
 ghost use Rattle.spanner_model.specs.Expression.{QueryTree};
 ghost use Rattle.spanner_model.specs.ExprView.{query_of};
 ghost use Rattle.query_parser.specs.Faults.{HasFault, IsQueryText};
-ghost use Rattle.query_parser.specs.Answers.{IsAnswer, IsRead};
+ghost use Rattle.query_parser.specs.Answers.{IsQueryAnswer, IsRead};
 ghost use Rattle.query_parser.specs.Spells.{SpellsQuery};
 ghost use Rattle.query_parser.specs.Nest.{outermost};
-ghost use Rattle.query_parser.specs.Step.{Ends};
+ghost use Rattle.query_parser.specs.Step.{EndsReading};
 ghost use Rattle.query_parser.specs.Turn.{AnswersBody};
 
 use crate::MOST_TEXT_BYTES;
@@ -20,7 +20,7 @@ use std::alloc::Global;
 
 fn read_by_turns(alloc: Global, text: &[u8]) -> Result<(Query, bool), QueryFault>
     requires { length text.now ≤ MOST_TEXT_BYTES }
-    ensures { AnswersBody result (Ends text.now 0 outermost) }
+    ensures { AnswersBody result (EndsReading text.now 0 outermost) }
 {
     let mut nest = Nest::new(alloc);
     let mut at = 0;
@@ -38,11 +38,11 @@ pub fn read_query(alloc: Global, text: &[u8]) -> Result<Query, QueryFault>
     // The text spells the query, within all limits, and the query is sound.
     ensures found { IfOk result (λ q. IsQueryText text.now (query_of q)) }
     // The text of a sound query is read, unless memory runs out.
-    ensures only { (q : QueryTree) → IsQueryText text.now q → IsAnswer result (Ok q) }
+    ensures only { (q : QueryTree) → IsQueryText text.now q → IsQueryAnswer result (Ok q) }
     // The fault is the text's one fault, unless memory ran out.
     ensures fault { IfErr result (λ e. (e ≡ QueryFault.OutOfMemory) ⊎ HasFault text.now e) }
     // The fault of a text is found, unless memory runs out.
-    ensures only_fault { (e : QueryFault) → HasFault text.now e → IsAnswer result (Err e) }
+    ensures only_fault { (e : QueryFault) → HasFault text.now e → IsQueryAnswer result (Err e) }
     ensures never { IfErr result (λ e. ¬ (e ≡ QueryFault.Formula formula_fault.OutOfMemory)) }
 {
     read_text(alloc, text)
@@ -64,7 +64,7 @@ fn read_text(alloc: Global, text: &[u8]) -> Result<Query, QueryFault>
 /// The query that a text spells, where no projection keeps too many names.
 fn kept(alloc: Global, text: &[u8], query: Query, many: bool) -> Result<Query, QueryFault>
     requires short { length text.now ≤ MOST_TEXT_BYTES }
-    requires spelled { Ends text.now 0 outermost (Ok (query_of query, many)) }
+    requires spelled { EndsReading text.now 0 outermost (Ok (query_of query, many)) }
     ensures { IsRead text.now result }
 {
     if many {

@@ -9,7 +9,7 @@ ghost use Rattle.query_parser.specs.declared.TheConstants.{MOST_TEXT_BYTES};
 ghost use Rattle.query_parser.specs.Reads.{finds_room};
 ghost use Rattle.span_core.specs.NameSets.{with_name};
 ghost use Rattle.query_parser.specs.Nest.{outermost, unit, move, moves_name, opens, begins_let, keeps, reads_name, speaks_of, find, whole, moves_minus, ends_let, ends_body};
-ghost use Rattle.query_parser.specs.Step.{moved, words, signs, ends, step, Ends};
+ghost use Rattle.query_parser.specs.Step.{moved, after_word, signs, ends, step, EndsReading};
 ghost use Rattle.query_parser.specs.View.{word_of, sign_of, nest_of};
 ghost use Rattle.query_parser.specs.Turn.{IsStep, ReadAtom, IsTurn, IsEnd, AnswersBody};
 
@@ -181,7 +181,7 @@ fn name(alloc: Global, at: usize, word: &[u8], nest: &mut Nest) -> Result<usize,
 }
 
 fn word(alloc: Global, at: usize, word: &[u8], nest: &mut Nest) -> Result<usize, QueryFault>
-    ensures { IsStep result (words at word.now (nest_of nest.old)) (nest_of nest.new) }
+    ensures { IsStep result (after_word at word.now (nest_of nest.old)) (nest_of nest.new) }
 {
     match word_of(word) {
         Word::Let => let_word(at, nest),
