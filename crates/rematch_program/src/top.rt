@@ -3,10 +3,12 @@
 //! One function a stage, each with the type of its stage in `specs/Run.antt` as its one clause; a stage either ends the
 //! run with a status and a note or hands what it has to the next.
 ghost use Rattle.std.specs.Prelude.{◌≡◌, ◌≤◌, None, map, string_bytes, length, true, IfErr, IfOk, IfSome, IsErrOf, OnOk};
+ghost use Rattle.std.specs.Coded.{Coded-set};
 ghost use Rattle.std.specs.Option.{option_copied};
 ghost use Rattle.rm_outside.specs.Shelf.{ByLength};
 ghost use Rattle.command_line.specs.RequestView.{request_view};
 ghost use Rattle.spanner_model.specs.ExprView.{query_of};
+ghost use Rattle.spanner_model.specs.contracts.query.Query.{the_row};
 ghost use Rattle.spanner_model.specs.Sound.{IsSound};
 ghost use Rattle.spanner_model.specs.Answers.{AreResultNames};
 ghost use Rattle.query_parser.specs.Tested.{IsTestedText};
@@ -24,7 +26,8 @@ ghost use Rattle.note_texts.specs.Notes.{note_bytes};
 ghost use Rattle.rematch_program.specs.Steps.{KeepsWithin};
 ghost use Rattle.rematch_program.specs.Pages.{CursorFits, HasWidth, IsAfter};
 ghost use Rattle.rematch_program.specs.Complete.{Completes};
-ghost use Rattle.rematch_program.specs.Run.{FetchFailed, Fetches, FromRequest, FromCursor, FromDocument, FromPlace, FromQuery, FromText, FromWords, Gives, IsHeldWithin, IsNotBegun, IsTooLarge, Run, RunTested, none_known, shelved};
+ghost use Rattle.rematch_program.specs.Run.{FromRequest, FromCursor, FromDocument, FromPlace, FromQuery, FromText, FromWords};
+ghost use Rattle.rematch_program.specs.Run.{FetchFailed, Fetches, Gives, IsHeldWithin, IsNotBegun, IsTooLarge, Run, RunTested, none_known, shelved};
 
 use crate::explanation::write_explanation;
 use crate::page::write_page;
@@ -121,36 +124,51 @@ fn with_words<S: Shelf, O: Sink, J: Judge, L: Ledger>(
         result.status (note_bytes result.note) (known tests.now J.judges) (map string_bytes words.now) }
 {
     match read_request(alloc, words) {
-        Ok(request) => with_request(alloc, &request, tests, shelf, out, steps),
+        Ok(request) => {
+            let job = Job {
+                alloc,
+                request: &request,
+                tests,
+            };
+            with_request(&job, shelf, out, steps)
+        }
         Err(WordsFault::Refused) => Outcome::fixed(Status::Words, FixedNote::BadCommandLine),
         Err(WordsFault::OutOfMemory) => Outcome::out_of_memory(),
     }
 }
 
+/// What a run is to do, before its query is read.
+#[derive(Drop)]
+struct Job<'r, J: Judge> {
+    alloc: Global,
+    /// What the words ask for.
+    request: &'r Request<'r>,
+    /// The tests that are known.
+    tests: &'r Tests<J>,
+}
+
 /// The query's text is taken from the words, or fetched.
 fn with_request<S: Shelf, O: Sink, J: Judge, L: Ledger>(
-    alloc: Global,
-    request: &Request<'_>,
-    tests: &Tests<J>,
+    job: &Job<'_, J>,
     shelf: &mut S,
     out: &mut O,
     steps: &mut Steps<L>,
 ) -> Outcome
     ensures case { FromRequest (shelved (S.told shelf.old) (S.told shelf.new))
         (work (change (O.told out.old) (O.told out.new)) (clock steps.old steps.new))
-        result.status (note_bytes result.note) (known tests.now J.judges) (request_view request.now) }
+        result.status (note_bytes result.note) (known job.now.tests.now J.judges) (request_view job.now.request.now) }
 {
-    let name = match request.query {
+    let name = match job.request.query {
         QuerySource::Given(text) => {
-            return with_text(alloc, request, text.as_bytes(), tests, shelf, out, steps);
+            return with_text(job, text.as_bytes(), shelf, out, steps);
         }
         QuerySource::Named(name) => name,
     };
-    match fetch_all(alloc, shelf, name, QUERY_LIMIT) {
-        Ok(text) => with_text(alloc, request, &text, tests, shelf, out, steps),
+    match fetch_all(job.alloc, shelf, name, QUERY_LIMIT) {
+        Ok(text) => with_text(job, &text, shelf, out, steps),
         Err(FetchFault::Failed) => Outcome::fixed(Status::Read, FixedNote::QueryUnread),
         Err(FetchFault::TooLong { seen: _ }) => Outcome::with(
-            alloc,
+            job.alloc,
             Status::Query,
             &Note::QueryTooLong { most: QUERY_LIMIT },
         ),
@@ -160,80 +178,86 @@ fn with_request<S: Shelf, O: Sink, J: Judge, L: Ledger>(
 
 /// The query is read, and its tests are looked for among those that are known.
 fn with_text<S: Shelf, O: Sink, J: Judge, L: Ledger>(
-    alloc: Global,
-    request: &Request<'_>,
+    job: &Job<'_, J>,
     text: &[u8],
-    tests: &Tests<J>,
     shelf: &mut S,
     out: &mut O,
     steps: &mut Steps<L>,
 ) -> Outcome
     ensures case { FromText (shelved (S.told shelf.old) (S.told shelf.new))
         (work (change (O.told out.old) (O.told out.new)) (clock steps.old steps.new))
-        result.status (note_bytes result.note) (known tests.now J.judges) (request_view request.now) text.now }
+        result.status (note_bytes result.note) (known job.now.tests.now J.judges) (request_view job.now.request.now) text.now }
 {
-    let tested = match read_tested(alloc, text) {
+    let tested = match read_tested(job.alloc, text) {
         Ok(tested) => tested,
-        Err(fault) => return Outcome::of_query(alloc, &fault),
+        Err(fault) => return Outcome::of_query(job.alloc, &fault),
     };
-    match bind(&tested, tests) {
-        Ok(()) => with_query(alloc, request, &tested, tests, shelf, out, steps),
-        Err(fault) => Outcome::of_query(alloc, &fault),
+    match bind(&tested, job.tests) {
+        Ok(()) => with_query(job, &tested, shelf, out, steps),
+        Err(fault) => Outcome::of_query(job.alloc, &fault),
     }
 }
 
 /// What the query is, or the answers that are asked for.
 fn with_query<S: Shelf, O: Sink, J: Judge, L: Ledger>(
-    alloc: Global,
-    request: &Request<'_>,
+    job: &Job<'_, J>,
     tested: &Tested,
-    tests: &Tests<J>,
     shelf: &mut S,
     out: &mut O,
     steps: &mut Steps<L>,
 ) -> Outcome
     requires sound { IsSound (query_of tested.now.query) }
-    requires bound { AreKnown (known tests.now J.judges) tested.now.asked }
+    requires bound { AreKnown (known job.now.tests.now J.judges) tested.now.asked }
     ensures case { FromQuery (shelved (S.told shelf.old) (S.told shelf.new))
         (work (change (O.told out.old) (O.told out.new)) (clock steps.old steps.new))
-        result.status (note_bytes result.note) (request_view request.now) (tested_of tested.now) (checks_of (known tests.now J.judges) tested.now.asked) }
+        result.status (note_bytes result.note) (request_view job.now.request.now) (tested_of tested.now)
+        (checks_of (known job.now.tests.now J.judges) tested.now.asked) }
 {
-    match request.mode {
-        Mode::Explain => write_explanation(alloc, tested, out),
-        Mode::Plain => match compiled_query(alloc, &tested.query) {
+    match job.request.mode {
+        Mode::Explain => write_explanation(job.alloc, tested, out),
+        Mode::Plain => match compiled_query(job.alloc, &tested.query) {
             Ok(compiled) => {
                 let asking = Asking {
+                    alloc: job.alloc,
+                    request: job.request,
                     tested,
-                    tests,
+                    tests: job.tests,
                     compiled,
                 };
-                with_cursor(alloc, request, &asking, shelf, out, steps)
+                with_cursor(&asking, shelf, out, steps)
             }
             Err(outcome) => outcome,
         },
-        Mode::Trial(lines) => match compiled_query(alloc, &tested.query) {
+        Mode::Trial(lines) => match compiled_query(job.alloc, &tested.query) {
             Ok(compiled) => {
                 let asking = Asking {
+                    alloc: job.alloc,
+                    request: job.request,
                     tested,
-                    tests,
+                    tests: job.tests,
                     compiled,
                 };
-                with_lines(alloc, request, lines, &asking, out, steps)
+                with_lines(lines, &asking, out, steps)
             }
             Err(outcome) => outcome,
         },
     }
 }
 
-/// What is asked of a document.
+/// What is asked of a document. The automaton is that of the query with its tests, and each of its tests is known.
 #[derive(Drop)]
 struct Asking<'r, J: Judge> {
+    alloc: Global,
+    /// What the words ask for.
+    request: &'r Request<'r>,
     /// The query with its tests.
     tested: &'r Tested,
     /// The tests that are known.
     tests: &'r Tests<J>,
     /// The query with its automaton.
     compiled: Compiled<'r>,
+    ghost query: { compiled.query ≡ tested.now.query } by { Coded-set the_row.coded compiled.query tested.now.query },
+    ghost bound: { ∥ AreKnown (known tests.now J.judges) tested.now.asked ∥₁ },
 }
 
 /// The query with its automaton, or how a run ends that has none.
@@ -252,27 +276,23 @@ fn compiled_query<'q>(alloc: Global, query: &'q Query) -> Result<Compiled<'q>, O
 
 /// The cursor is read.
 fn with_cursor<S: Shelf, O: Sink, J: Judge, L: Ledger>(
-    alloc: Global,
-    request: &Request<'_>,
     asking: &Asking<'_, J>,
     shelf: &mut S,
     out: &mut O,
     steps: &mut Steps<L>,
 ) -> Outcome
-    requires plain { (request_view request.now).mode ≡ Mode.Plain }
-    requires query { asking.now.compiled.query ≡ asking.now.tested.now.query }
-    requires names { AreResultNames (query_of asking.now.compiled.query) asking.now.compiled.automaton.names }
-    requires bound { AreKnown (known asking.now.tests.now J.judges) asking.now.tested.now.asked }
-    ensures case { FromCursor (request_view request.now) (query_of asking.now.compiled.query) (checks_of (known asking.now.tests.now J.judges) asking.now.tested.now.asked)
+    requires plain { (request_view asking.now.request.now).mode ≡ Mode.Plain }
+    ensures case { let a = asking.now in
+        FromCursor (request_view a.request.now) (query_of a.compiled.query) (checks_of (known a.tests.now J.judges) a.tested.now.asked)
         (work (change (O.told out.old) (O.told out.new)) (clock steps.old steps.new))
-        result.status (note_bytes result.note) (shelved (S.told shelf.old) (S.told shelf.new)) asking.now.compiled.automaton.names }
+        result.status (note_bytes result.note) (shelved (S.told shelf.old) (S.told shelf.new)) a.compiled.automaton.names }
 {
-    let text = match request.after {
+    let text = match asking.request.after {
         Some(text) => text,
-        None => return with_place(alloc, request, asking, None, shelf, out, steps),
+        None => return with_place(asking, None, shelf, out, steps),
     };
     match row_cursor::read(text.as_bytes(), asking.compiled.vars()) {
-        Ok(kept) => with_place(alloc, request, asking, Some(&kept), shelf, out, steps),
+        Ok(kept) => with_place(asking, Some(&kept), shelf, out, steps),
         Err(CursorFault::Syntax) => Outcome::fixed(Status::Cursor, FixedNote::NotACursor),
         Err(CursorFault::Variables) => Outcome::fixed(Status::Cursor, FixedNote::OtherVariables),
     }
@@ -280,29 +300,25 @@ fn with_cursor<S: Shelf, O: Sink, J: Judge, L: Ledger>(
 
 /// The document is fetched, for a page that begins after the row that is kept.
 fn with_place<S: Shelf, O: Sink, J: Judge, L: Ledger>(
-    alloc: Global,
-    request: &Request<'_>,
     asking: &Asking<'_, J>,
     after: Option<&Kept>,
     shelf: &mut S,
     out: &mut O,
     steps: &mut Steps<L>,
 ) -> Outcome
-    requires plain { (request_view request.now).mode ≡ Mode.Plain }
-    requires query { asking.now.compiled.query ≡ asking.now.tested.now.query }
-    requires names { AreResultNames (query_of asking.now.compiled.query) asking.now.compiled.automaton.names }
-    requires bound { AreKnown (known asking.now.tests.now J.judges) asking.now.tested.now.asked }
-    requires after { IsAfter asking.now.compiled.automaton.names (request_view request.now).after (option_copied after) }
-    ensures case { FromPlace (request_view request.now) (query_of asking.now.compiled.query) (checks_of (known asking.now.tests.now J.judges) asking.now.tested.now.asked)
+    requires plain { (request_view asking.now.request.now).mode ≡ Mode.Plain }
+    requires after { IsAfter asking.now.compiled.automaton.names (request_view asking.now.request.now).after (option_copied after) }
+    ensures case { let a = asking.now in
+        FromPlace (request_view a.request.now) (query_of a.compiled.query) (checks_of (known a.tests.now J.judges) a.tested.now.asked)
         (work (change (O.told out.old) (O.told out.new)) (clock steps.old steps.new))
         result.status (note_bytes result.note) (shelved (S.told shelf.old) (S.told shelf.new))
-        asking.now.compiled.automaton.names (option_copied after.entry) }
+        a.compiled.automaton.names (option_copied after.entry) }
 {
-    match fetch_all(alloc, shelf, request.document, DOCUMENT_LIMIT) {
-        Ok(document) => with_document(alloc, request, asking, after, &document, out, steps),
+    match fetch_all(asking.alloc, shelf, asking.request.document, DOCUMENT_LIMIT) {
+        Ok(document) => with_document(asking, after, &document, out, steps),
         Err(FetchFault::Failed) => Outcome::fixed(Status::Read, FixedNote::DocumentUnread),
         Err(FetchFault::TooLong { seen: _ }) => Outcome::with(
-            alloc,
+            asking.alloc,
             Status::Long,
             &Note::DocumentTooLong {
                 most: DOCUMENT_LIMIT,
@@ -314,25 +330,21 @@ fn with_place<S: Shelf, O: Sink, J: Judge, L: Ledger>(
 
 /// The answers after the row that is kept are begun, for a page of those that pass the tests.
 fn with_document<O: Sink, J: Judge, L: Ledger>(
-    alloc: Global,
-    request: &Request<'_>,
     asking: &Asking<'_, J>,
     after: Option<&Kept>,
     document: &[u8],
     out: &mut O,
     steps: &mut Steps<L>,
 ) -> Outcome
-    requires plain { (request_view request.now).mode ≡ Mode.Plain }
-    requires query { asking.now.compiled.query ≡ asking.now.tested.now.query }
-    requires names { AreResultNames (query_of asking.now.compiled.query) asking.now.compiled.automaton.names }
-    requires bound { AreKnown (known asking.now.tests.now J.judges) asking.now.tested.now.asked }
-    requires after { IsAfter asking.now.compiled.automaton.names (request_view request.now).after (option_copied after) }
+    requires plain { (request_view asking.now.request.now).mode ≡ Mode.Plain }
+    requires after { IsAfter asking.now.compiled.automaton.names (request_view asking.now.request.now).after (option_copied after) }
     requires short { length document.now ≤ DOCUMENT_LIMIT }
-    ensures case { FromDocument (request_view request.now) (query_of asking.now.compiled.query) (checks_of (known asking.now.tests.now J.judges) asking.now.tested.now.asked)
+    ensures case { let a = asking.now in
+        FromDocument (request_view a.request.now) (query_of a.compiled.query) (checks_of (known a.tests.now J.judges) a.tested.now.asked)
         (work (change (O.told out.old) (O.told out.new)) (clock steps.old steps.new))
-        result.status (note_bytes result.note) asking.now.compiled.automaton.names (option_copied after.entry) document.now }
+        result.status (note_bytes result.note) a.compiled.automaton.names (option_copied after.entry) document.now }
 {
-    match begun(alloc, request, &asking.compiled, after, document, steps) {
+    match begun(asking, after, document, steps) {
         Ok(answers) => {
             let mut rows = TestedRows::new(
                 answers,
@@ -341,7 +353,7 @@ fn with_document<O: Sink, J: Judge, L: Ledger>(
                 asking.tests,
                 document,
             );
-            write_page(alloc, request, &mut rows, out, steps)
+            write_page(asking.alloc, asking.request, &mut rows, out, steps)
         }
         Err(outcome) => outcome,
     }
@@ -349,48 +361,40 @@ fn with_document<O: Sink, J: Judge, L: Ledger>(
 
 /// The document of so many lines is made, and all answers on it are begun, for a summary of those that pass the tests.
 fn with_lines<O: Sink, J: Judge, L: Ledger>(
-    alloc: Global,
-    request: &Request<'_>,
     lines: u32,
     asking: &Asking<'_, J>,
     out: &mut O,
     steps: &mut Steps<L>,
 ) -> Outcome
-    requires trial { (request_view request.now).mode ≡ Mode.Trial lines }
+    requires trial { (request_view asking.now.request.now).mode ≡ Mode.Trial lines }
     requires few { lines ≤ MOST_TRIAL_LINES }
-    requires query { asking.now.compiled.query ≡ asking.now.tested.now.query }
-    requires names { AreResultNames (query_of asking.now.compiled.query) asking.now.compiled.automaton.names }
-    requires bound { AreKnown (known asking.now.tests.now J.judges) asking.now.tested.now.asked }
-    ensures case { FromDocument (request_view request.now) (query_of asking.now.compiled.query) (checks_of (known asking.now.tests.now J.judges) asking.now.tested.now.asked)
+    ensures case { let a = asking.now in
+        FromDocument (request_view a.request.now) (query_of a.compiled.query) (checks_of (known a.tests.now J.judges) a.tested.now.asked)
         (work (change (O.told out.old) (O.told out.new)) (clock steps.old steps.new))
-        result.status (note_bytes result.note) asking.now.compiled.automaton.names None (trial_text lines) }
+        result.status (note_bytes result.note) a.compiled.automaton.names None (trial_text lines) }
 {
-    match trial(alloc, lines) {
-        Ok(document) => with_trial(alloc, request, lines, asking, &document, out, steps),
+    match trial(asking.alloc, lines) {
+        Ok(document) => with_trial(lines, asking, &document, out, steps),
         Err(OutOfMemory) => Outcome::out_of_memory(),
     }
 }
 
 /// The answers on the document of so many lines are begun.
 fn with_trial<O: Sink, J: Judge, L: Ledger>(
-    alloc: Global,
-    request: &Request<'_>,
     lines: u32,
     asking: &Asking<'_, J>,
     document: &[u8],
     out: &mut O,
     steps: &mut Steps<L>,
 ) -> Outcome
-    requires trial { (request_view request.now).mode ≡ Mode.Trial lines }
+    requires trial { (request_view asking.now.request.now).mode ≡ Mode.Trial lines }
     requires short { length document.now ≤ DOCUMENT_LIMIT }
-    requires query { asking.now.compiled.query ≡ asking.now.tested.now.query }
-    requires names { AreResultNames (query_of asking.now.compiled.query) asking.now.compiled.automaton.names }
-    requires bound { AreKnown (known asking.now.tests.now J.judges) asking.now.tested.now.asked }
-    ensures case { FromDocument (request_view request.now) (query_of asking.now.compiled.query) (checks_of (known asking.now.tests.now J.judges) asking.now.tested.now.asked)
+    ensures case { let a = asking.now in
+        FromDocument (request_view a.request.now) (query_of a.compiled.query) (checks_of (known a.tests.now J.judges) a.tested.now.asked)
         (work (change (O.told out.old) (O.told out.new)) (clock steps.old steps.new))
-        result.status (note_bytes result.note) asking.now.compiled.automaton.names None document.now }
+        result.status (note_bytes result.note) a.compiled.automaton.names None document.now }
 {
-    match begun(alloc, request, &asking.compiled, None, document, steps) {
+    match begun(asking, None, document, steps) {
         Ok(answers) => {
             let mut rows = TestedRows::new(
                 answers,
@@ -399,40 +403,53 @@ fn with_trial<O: Sink, J: Judge, L: Ledger>(
                 asking.tests,
                 document,
             );
-            write_summary(alloc, lines, &mut rows, out, steps)
+            write_summary(asking.alloc, lines, &mut rows, out, steps)
         }
         Err(outcome) => outcome,
     }
 }
 
 /// The answers on a document after the row that is kept, or how a run ends that has none.
-fn begun<L: Ledger>(
-    alloc: Global,
-    request: &Request<'_>,
-    compiled: &Compiled<'_>,
+fn begun<J: Judge, L: Ledger>(
+    asking: &Asking<'_, J>,
     after: Option<&Kept>,
     document: &[u8],
     steps: &mut Steps<L>,
 ) -> Result<Answers, Outcome>
     requires short { length document.now ≤ DOCUMENT_LIMIT }
-    requires width { HasWidth (length compiled.now.automaton.names) (row_kept (option_copied after)) }
+    requires width { HasWidth (length asking.now.compiled.automaton.names) (row_kept (option_copied after)) }
+    ensures names { OnOk result (AreResultNames (query_of asking.now.compiled.query) asking.now.compiled.automaton.names) }
     ensures fits { OnOk result (CursorFits (length document.now) (option_copied after.entry)) }
-    ensures left { IfOk result (λ a. AreLeft (query_of compiled.now.query) document.now compiled.now.automaton.names (row_kept (option_copied after.entry)) a.rest) }
-    ensures variables { IfOk result (λ a. a.variables ≡ length compiled.now.automaton.names) }
-    ensures held { OnOk result (IsHeldWithin (request_view request.now).filter (query_of compiled.now.query) document.now (request_view request.now).max_table) }
-    ensures outcome { IfErr result (λ e. IsNotBegun (request_view request.now).filter (query_of compiled.now.query) (option_copied after.entry) document.now (request_view request.now).max_table (clock steps.old steps.new) e.status (note_bytes e.note)) }
-    ensures steps { KeepsWithin (request_view request.now).filter (query_of compiled.now.query) document.now
-        (λ K. begin_steps (request_view request.now).filter (query_of compiled.now.query) document.now K (row_kept (option_copied after.entry))) (clock steps.old steps.new) }
+    ensures left { let c = asking.now.compiled in
+        IfOk result (λ a. AreLeft (query_of c.query) document.now c.automaton.names (row_kept (option_copied after.entry)) a.rest) }
+    ensures variables { IfOk result (λ a. a.variables ≡ length asking.now.compiled.automaton.names) }
+    ensures held { let r = request_view asking.now.request.now in
+        OnOk result (IsHeldWithin r.filter (query_of asking.now.compiled.query) document.now r.max_table) }
+    ensures outcome { let r = request_view asking.now.request.now in
+        let q = query_of asking.now.compiled.query in
+        IfErr result (λ e. IsNotBegun r.filter q (option_copied after.entry) document.now r.max_table (clock steps.old steps.new)
+        e.status (note_bytes e.note)) }
+    ensures steps { let filter = (request_view asking.now.request.now).filter in
+        let q = query_of asking.now.compiled.query in
+        KeepsWithin filter q document.now (λ K. begin_steps filter q document.now K (row_kept (option_copied after.entry)))
+        (clock steps.old steps.new) }
 {
     let options = Options {
-        filter: request.filter,
-        limit: request.max_table,
+        filter: asking.request.filter,
+        limit: asking.request.max_table,
     };
-    compiled.automaton(); // it was compiled from the query, which this call says
-    match begin(alloc, compiled, document, after, options, steps) {
+    asking.compiled.automaton(); // it was compiled from the query, which this call says
+    match begin(
+        asking.alloc,
+        &asking.compiled,
+        document,
+        after,
+        options,
+        steps,
+    ) {
         Ok(answers) => Ok(answers),
         Err(BeginFault::CursorOther { kept, found }) => Err(Outcome::with(
-            alloc,
+            asking.alloc,
             Status::Cursor,
             &Note::OtherDocument { kept, found },
         )),
@@ -441,17 +458,17 @@ fn begun<L: Ledger>(
             FixedNote::PastTheDocument,
         )),
         Err(BeginFault::Filter { weight: _ }) => Err(Outcome::with(
-            alloc,
+            asking.alloc,
             Status::Size,
             &Note::Filter {
-                limit: request.max_table,
+                limit: asking.request.max_table,
             },
         )),
         Err(BeginFault::Table { weight: _ }) => Err(Outcome::with(
-            alloc,
+            asking.alloc,
             Status::Size,
             &Note::Table {
-                limit: request.max_table,
+                limit: asking.request.max_table,
             },
         )),
         Err(BeginFault::OutOfMemory) => Err(Outcome::out_of_memory()),

@@ -20,13 +20,13 @@ returns-in-Ok-clause-fits g c =
 
 pub returns-in-Ok-clause-held : goal.returns-in-Ok-clause-held
 returns-in-Ok-clause-held g c =
-    record { automaton = c.args.compiled.now.automaton; compiled = c.automaton.ensures.compiled; read = c.in-Ok.ensures.weighs; atoms = c.in-Ok.ensures.atoms }
+    record { automaton = c.args.asking.now.compiled.automaton; compiled = c.automaton.ensures.compiled; read = c.in-Ok.ensures.weighs; atoms = c.in-Ok.ensures.atoms }
 
 pub returns-in-Err-CursorOther-clause-outcome : goal.returns-in-Err-CursorOther-clause-outcome
 returns-in-Err-CursorOther-clause-outcome g c =
     let d = c.args.document.now in
-    let r = c.args.request.now in
-    let P : BeginFault → Type 0 = λ fault. IsBeginFault (query_of c.args.compiled.now.query) d r.filter (option_copied c.args.after) r.max_table fault in
+    let r = c.args.asking.now.request.now in
+    let P : BeginFault → Type 0 = λ fault. IsBeginFault (query_of c.args.asking.now.compiled.query) d r.filter (option_copied c.args.after) r.max_table fault in
     let (keeps, found) = subst P c.in-Err-CursorOther.field-0-is c.in-Err-CursorOther.ensures.fault in
     let still = c.in-Err-CursorOther.ensures.still c.in-Err-CursorOther.kept c.in-Err-CursorOther.found (inr (ap Err c.in-Err-CursorOther.field-0-is)) in
     elim c.with.ensures [
@@ -37,20 +37,21 @@ returns-in-Err-CursorOther-clause-outcome g c =
 
 pub returns-in-Err-CursorPlace-clause-outcome : goal.returns-in-Err-CursorPlace-clause-outcome
 returns-in-Err-CursorPlace-clause-outcome g c =
-    let r = c.args.request.now in
-    let P : BeginFault → Type 0 = λ fault. IsBeginFault (query_of c.args.compiled.now.query) c.args.document.now r.filter (option_copied c.args.after) r.max_table fault in
+    let r = c.args.asking.now.request.now in
+    let P : BeginFault → Type 0 = λ fault. IsBeginFault (query_of c.args.asking.now.compiled.query) c.args.document.now r.filter (option_copied c.args.after) r.max_table fault in
     past_the_document (subst P c.in-Err-CursorPlace.field-0-is c.in-Err-CursorPlace.ensures.fault)
     (record { ends = c.fixed.ensures.status; says = search rules }) (c.in-Err-CursorPlace.ensures.still 0 0 (inl (ap Err c.in-Err-CursorPlace.field-0-is)))
 
 pub returns-in-Err-Filter-clause-outcome : goal.returns-in-Err-Filter-clause-outcome
 returns-in-Err-Filter-clause-outcome g c =
-    let q = query_of c.args.compiled.now.query in
+    let q = query_of c.args.asking.now.compiled.query in
     let d = c.args.document.now in
-    let r = c.args.request.now in
+    let r = c.args.asking.now.request.now in
     let P : BeginFault → Type 0 = λ fault. IsBeginFault q d r.filter (option_copied c.args.after) r.max_table fault in
     let (wanted, plain, heavy) = subst P c.in-Err-Filter.field-0-is c.in-Err-Filter.ensures.fault in
     let at = c.in-Err-Filter.field-0-is in
-    let fits = fits_unless (length d) (option_copied c.args.after) (λ other keeps. let is = c.in-Err-Filter.ensures.other other keeps in cc) (λ past. let is = c.in-Err-Filter.ensures.place past in cc) in
+    let fits = fits_unless (length d) (option_copied c.args.after) (λ other keeps. let is = c.in-Err-Filter.ensures.other other keeps in cc)
+    (λ past. let is = c.in-Err-Filter.ensures.place past in cc) in
     elim c.with-in-Err-Filter.ensures [
       | inl is ↦ filter_full fits wanted plain (heavy_atom q d r.max_table c.in-Err-Filter.field-0-0 heavy) is c.in-Err-Filter.ensures.steps
       | inr is ↦ by_memory is c.in-Err-Filter.ensures.steps
@@ -58,13 +59,14 @@ returns-in-Err-Filter-clause-outcome g c =
 
 pub returns-in-Err-Table-clause-outcome : goal.returns-in-Err-Table-clause-outcome
 returns-in-Err-Table-clause-outcome g c =
-    let q = query_of c.args.compiled.now.query in
+    let q = query_of c.args.asking.now.compiled.query in
     let d = c.args.document.now in
-    let r = c.args.request.now in
+    let r = c.args.asking.now.request.now in
     let P : BeginFault → Type 0 = λ fault. IsBeginFault q d r.filter (option_copied c.args.after) r.max_table fault in
     let (over, within) = subst P c.in-Err-Table.field-0-is c.in-Err-Table.ensures.fault in
     let at = c.in-Err-Table.field-0-is in
-    let fits = fits_unless (length d) (option_copied c.args.after) (λ other keeps. let is = c.in-Err-Table.ensures.other other keeps in cc) (λ past. let is = c.in-Err-Table.ensures.place past in cc) in
+    let fits = fits_unless (length d) (option_copied c.args.after) (λ other keeps. let is = c.in-Err-Table.ensures.other other keeps in cc)
+    (λ past. let is = c.in-Err-Table.ensures.place past in cc) in
     elim c.with-in-Err-Table.ensures [
       | inl is ↦ table_full fits (λ K reads. let most = within K reads in omega (arith, over, most)) is c.in-Err-Table.ensures.steps
       | inr is ↦ by_memory is c.in-Err-Table.ensures.steps

@@ -8,7 +8,7 @@ use Rattle.rematch_program.proofs.top.with_text.Goals as goal
 
 pub returns-in-Err : goal.returns-in-Err
 returns-in-Err g c =
-    let k = known c.args.tests.now g.J.Judge.judges in
+    let k = known c.args.job.now.tests.now g.J.Judge.judges in
     let e = c.in-Err.ensures in
     record {
       case = elim c.of_query.ensures [
@@ -19,13 +19,13 @@ returns-in-Err g c =
 
 pub returns-in-Ok-bind : goal.returns-in-Ok-bind
 returns-in-Ok-bind g c =
-    let k = known c.args.tests.now g.J.Judge.judges in
+    let k = known c.args.job.now.tests.now g.J.Judge.judges in
     let t = c.in-Ok.tested in
     record { case = understood (tested_of t) (only_tested k c.args.text.now t c.in-Ok.ensures.found c.in-Ok.ensures.only c.in-Ok-bind.ensures.known) c.with_query.ensures.case }
 
 pub returns : goal.returns
 returns g c =
-    let k = known c.args.tests.now g.J.Judge.judges in
+    let k = known c.args.job.now.tests.now g.J.Judge.judges in
     let t = c.in-Ok.tested in
     let (at, first, is) = c.in-Err-bind.ensures.fault in
     let only = subst (λ (fault : QueryFault). IsOnlyFault k c.args.text.now fault) (sym is) (unknown_fault k c.args.text.now t c.in-Ok.ensures.found c.in-Ok.ensures.only at first) in
