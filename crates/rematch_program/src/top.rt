@@ -18,7 +18,6 @@ ghost use Rattle.spanner_engine.specs.Begun.{begin_steps, row_kept};
 ghost use Rattle.spanner_engine.specs.Left.{AreLeft};
 ghost use Rattle.spanner_model.specs.Passing.{AreKnown, checks_of, known};
 ghost use Rattle.trial_maker.specs.Trial.{trial_text};
-ghost use Rattle.command_line.specs.declared.TheConstants.{MOST_TRIAL_LINES};
 ghost use Rattle.rematch_program.specs.declared.TheConstants.{DOCUMENT_LIMIT};
 ghost use Rattle.rm_outside.specs.Change.{change};
 ghost use Rattle.rematch_program.specs.Work.{clock, work};
@@ -367,7 +366,6 @@ fn with_lines<O: Sink, J: Judge, L: Ledger>(
     steps: &mut Steps<L>,
 ) -> Outcome
     requires trial { (request_view asking.now.request.now).mode ≡ Mode.Trial lines }
-    requires few { lines ≤ MOST_TRIAL_LINES }
     ensures case { let a = asking.now in
         FromDocument (request_view a.request.now) (query_of a.compiled.query) (checks_of (known a.tests.now J.judges) a.tested.now.asked)
         (work (change (O.told out.old) (O.told out.new)) (clock steps.old steps.new))
