@@ -15,7 +15,10 @@ use Rattle.query_parser.specs.Binding.{IsOnlyTested}
 use Rattle.note_texts.specs.Notes.{table_note}
 use Rattle.session_server.specs.declared.TheConstants.{MOST_GROWN, SESSION_TABLE}
 use Rattle.session_server.specs.Requests.{SessionRequest, open_request, next_request, grow_request, close_request, session_id, request_object, IsRequest}
-use Rattle.session_server.specs.Replies.{Session, Sessions, begun, giving, growing, asking, session_of, sessions_without, to_come, Reply, opened, given_rows, grown_to, closed, error_of, no_request, Answers, taken, full, refused, opens, gives, heavy_next, grows, long, heavy_grown, closes, next_of_none, grow_of_none, close_of_none, wants_memory, IsReply, to_request, to_no_request, AreReplies, no_line, first_line, is_about, replies_of, IsLineOf, AreLinesOf, none_of, one_of, other_of, SessionsAreApart}
+use Rattle.session_server.specs.Replies.{Session, Sessions, begun, giving, growing, asking, session_of, sessions_without, to_come, Reply, opened, given_rows, grown_to}
+use Rattle.session_server.specs.Replies.{closed, error_of, no_request, Answers, taken, full, refused, opens, gives, heavy_next, grows, long, heavy_grown, closes}
+use Rattle.session_server.specs.Replies.{next_of_none, grow_of_none, close_of_none, wants_memory, IsReply, to_request, to_no_request, AreReplies, no_line, first_line}
+use Rattle.session_server.specs.Replies.{is_about, replies_of, IsLineOf, AreLinesOf, none_of, one_of, other_of, SessionsAreApart}
 use Rattle.session_server.proofs.SessionLaws.{of_with, of_with_other, of_changed, of_changed_other, of_without, of_without_other, only, of_only, few_only, changed_only, without_only}
 
 -- ---- the number of a request

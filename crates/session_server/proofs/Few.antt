@@ -4,7 +4,9 @@ use Rattle.std.specs.Prelude.{not, ◌==◌, if◌then◌else◌}
 use Rattle.spanner_model.specs.Passing.{Known}
 use Rattle.session_server.specs.declared.TheConstants.{MOST_SESSIONS}
 use Rattle.session_server.specs.Requests.{SessionRequest, session_id}
-use Rattle.session_server.specs.Replies.{Session, Sessions, sessions_without, with_session, changed, begun, giving, growing, asking, to_come, Reply, Answers, taken, full, refused, opens, gives, heavy_next, grows, long, heavy_grown, closes, next_of_none, grow_of_none, close_of_none, wants_memory, to_request, to_no_request, AreReplies, no_line, first_line, FewAreOpen}
+use Rattle.session_server.specs.Replies.{Session, Sessions, sessions_without, with_session, changed, begun, giving, growing, asking, to_come, Reply, Answers, taken, full}
+use Rattle.session_server.specs.Replies.{refused, opens, gives, heavy_next, grows, long, heavy_grown, closes, next_of_none, grow_of_none, close_of_none, wants_memory}
+use Rattle.session_server.specs.Replies.{to_request, to_no_request, AreReplies, no_line, first_line, FewAreOpen}
 
 fewer : (n : ℕ) (all : Sessions) → length (sessions_without n all) ≤ length all
 fewer n [] = omega arith

@@ -115,7 +115,8 @@ comes_of k c s all row is o =
 
 pub row_fits : (k : Known) (c : CodeSession) (s : Session) (all : List SpanRow) (row : SpanRow) → next_row c ≡ Some row → IsSessionOver k c s all → FitsRow (length c.vars) (length s.document) row
 row_fits k c s all row is o =
-    comes_fits s.query.query s.document c.vars (checks_of k s.query.asked) s.given all (passing (checks_of k s.query.asked) c.vars s.document c.answers.rest) row o.answers (comes_of k c s all row is o)
+    comes_fits s.query.query s.document c.vars (checks_of k s.query.asked) s.given all (passing (checks_of k s.query.asked) c.vars s.document c.answers.rest) row o.answers
+    (comes_of k c s all row is o)
 
 abbrev pub with_left : CodeSession → AnswersLeft → Bool → CodeSession
 with_left c left some = record c { answers = left; some = some }
@@ -207,7 +208,8 @@ module _ (k : Known) (old : CodeSession) (s : Session) (all : List SpanRow) wher
         now = subst (λ (g : ℕ). IsSessionOver k new (record s { given = g }) all) again one.now;
       }
 
-  given_at : (now : CodeSession) (count most : ℕ) (written : List ℕ) (more : Bool) → GivesSoFar k old now count written s all → take most coming ≡ take count coming → length (take most coming) ≡ count →
+  given_at : (now : CodeSession) (count most : ℕ) (written : List ℕ) (more : Bool) → GivesSoFar k old now count written s all → take most coming ≡ take count coming →
+      length (take most coming) ≡ count →
       more ≡ nat_lt most (length coming) → HasGiven k old now most (array_of written) more s all
   given_at now count most written more so same long tells = record {
     rows = ap array_of (so.rows ∙ ap (rows_text old.vars) (sym same)) ∙ array_text old.vars (take most coming);
@@ -234,7 +236,8 @@ module _ (k : Known) (old : CodeSession) (s : Session) (all : List SpanRow) wher
       long : (n : ℕ) (rows : List SpanRow) → n ≤ length rows → length (take n rows) ≡ n
       long n rows few = omega (arith, length-take n rows, few)
 
-      by : (o : Option SpanRow) → MatchOption o (to_come k (giving most s) now.vars all ≡ []) (λ r. to_come k (giving most s) now.vars all ≡ r ∷ passing (checks_of k s.query.asked) now.vars s.document now.answers.rest) →
+      by : (o : Option SpanRow) → MatchOption o (to_come k (giving most s) now.vars all ≡ [])
+          (λ r. to_come k (giving most s) now.vars all ≡ r ∷ passing (checks_of k s.query.asked) now.vars s.document now.answers.rest) →
           is_some o ≡ nat_lt most (length coming)
       by None is = let end = none_left most coming (sym (left_now now most now.vars so.vars) ∙ is) in grind (arith, nat_tests, end)
       by (Some r) is = let more = some_left most coming _ r (sym (left_now now most now.vars so.vars) ∙ is) in grind (arith, nat_tests, more)
@@ -249,7 +252,8 @@ end_given k old now new s all count most before after array so few same is stays
     subst (λ (c : CodeSession). HasGiven k old c most array false s all) (sym stays)
     (subst (λ (text : List ℕ). HasGiven k old now most text false s all) (sym (is ∙ ap array_of same)) (all_given k old s all now count most before so few none))
 
-pub full_given : (k : Known) (old now : CodeSession) (s : Session) (all : List SpanRow) (count most : ℕ) (written array : List ℕ) (more : Bool) → GivesSoFar k old now count written s all → count ≡ most →
+pub full_given : (k : Known) (old now : CodeSession) (s : Session) (all : List SpanRow) (count most : ℕ) (written array : List ℕ) (more : Bool) → GivesSoFar k old now count written s all →
+    count ≡ most →
     array ≡ array_of written → more ≡ now.some → HasGiven k old now most array more s all
 full_given k old now s all count most written array more so is made tells =
     subst (λ (text : List ℕ). HasGiven k old now most text more s all) (sym made)

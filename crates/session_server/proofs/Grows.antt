@@ -1,5 +1,6 @@
 -- What is held of reading a session's document.
-use Rattle.std.proofs.Common.{arith, zero, suc, ◌≡◌, ◌+◌, ◌<◌, ◌≤◌, ◌^◌, ℕ, Bool, true, false, List, [], ◌∷◌, ◌++◌, length, take, drop, Option, None, Some, MatchOption, inl, inr, refl, sym, ap, ◌∙◌, subst, length-append}
+use Rattle.std.proofs.Common.{arith, zero, suc, ◌≡◌, ◌+◌, ◌<◌, ◌≤◌, ◌^◌, ℕ, Bool, true, false, List, [], ◌∷◌, ◌++◌, length, take, drop, Option, None, Some, MatchOption}
+use Rattle.std.proofs.Common.{inl, inr, refl, sym, ap, ◌∙◌, subst, length-append}
 use Rattle.std.specs.Prelude.{if◌then◌else◌, nat_lt}
 use Rattle.std.specs.Bool.{OnTrue, OnFalse}
 use Rattle.serde_json.specs.Data.{array}
@@ -100,7 +101,8 @@ first_met A sets (a ∷ later) set h = Has-append_left sets _ set h
 pub start_heavy : (q : QueryTree) (A : Marked) (d : List ℕ) (weight : ℕ) → IsCompiled q A → IsWeightFault A.graph SESSION_TABLE [] [] (fault.Full weight) → IsHeavy q d (length d ∷ [])
 start_heavy q A d weight made f =
     let lengths : List ℕ = length d ∷ [] in
-    let less = weight_covers A.graph (sets_in A.graph d) (sets_in A.graph []) (look_ups_in A.graph d ++ ends_at A.graph d lengths) [] (first_met A.graph (first_sets A.graph) (questions_in d)) (λ look_up h. absurd h) in
+    let less = weight_covers A.graph (sets_in A.graph d) (sets_in A.graph []) (look_ups_in A.graph d ++ ends_at A.graph d lengths) []
+    (first_met A.graph (first_sets A.graph) (questions_in d)) (λ look_up h. absurd h) in
     let reduced = reduct_weighs A.graph (counted q) made.reduces.1 d lengths in
     let over = f.0 in
     let most = f.1 in
@@ -157,7 +159,8 @@ bytes_append (y ∷ a) b p q zero x h = p zero x h
 bytes_append (y ∷ a) b p q (suc i) x h = bytes_append a b (λ j z k. p (suc j) z k) q i x h
 
 -- a text is put behind the document
-pub now_waits : (k : Known) (c : CodeSession) (s : Session) (text : List ℕ) (h : Grown) → length c.growing.document + length text ≤ MOST_GROWN → AreBytes text → IsAppended c.growing text h → IsSession k c s →
+pub now_waits : (k : Known) (c : CodeSession) (s : Session) (text : List ℕ) (h : Grown) → length c.growing.document + length text ≤ MOST_GROWN → AreBytes text → IsAppended c.growing text h →
+    IsSession k c s →
     IsSession k (record c { growing = h; grown = true }) (growing text s)
 now_waits k c s text h few bytes a stands =
     let o = kept_of k c s stands in
@@ -208,9 +211,12 @@ module _ (k : Known) (c : CodeSession) (s : Session) (h : Grown) (whole old : Li
       let t = s.query in
       let next : Option SpanRow = if some then Some left.row else None in
       let found = as_option some left.row _ _ next_one none in
-      let N : TestedTree → List ℕ → Type 0 = λ u x. MatchOption next ((passing (checks_of k u.asked) c.vars x old ≡ []) × (left.rest ≡ [])) (λ r. IsNextPassing (checks_of k u.asked) c.vars x old r left.rest) in
+      let N : TestedTree → List ℕ → Type 0 = λ u x.
+      MatchOption next ((passing (checks_of k u.asked) c.vars x old ≡ []) × (left.rest ≡ [])) (λ r. IsNextPassing (checks_of k u.asked) c.vars x old r left.rest) in
       let here = comes_first (checks_of k t.asked) c.vars s.document old left.rest next (subst (N t) same (subst (λ (u : TestedTree). N u e) o.query found)) in
-      let P : ℕ → Type 0 = λ n. MatchOption next (drop n (passing (checks_of k t.asked) c.vars s.document old) ≡ []) (λ r. drop n (passing (checks_of k t.asked) c.vars s.document old) ≡ r ∷ passing (checks_of k t.asked) c.vars s.document left.rest) in (
+      let P : ℕ → Type 0 = λ n.
+      MatchOption next (drop n (passing (checks_of k t.asked) c.vars s.document old) ≡ [])
+      (λ r. drop n (passing (checks_of k t.asked) c.vars s.document old) ≡ r ∷ passing (checks_of k t.asked) c.vars s.document left.rest) in (
         old,
         record {
           kept = record {
@@ -234,7 +240,8 @@ pub page_given : (k : Known) (old mid new : CodeSession) (most : ℕ) (written :
     HasGiven k mid new most written more (asking s) all → GivesPage k old new most written more s
 page_given k old mid new most written more s all same o h =
     let t = asking s in
-    let P : List VarName → Type 0 = λ vs. AreResultNames s.query.query vs × AreAnswers s.query.query s.document vs all × (written ≡ compact_text (array (json_rows vs (take most (to_come k t vs all)))))
+    let P : List VarName → Type 0 = λ vs.
+    AreResultNames s.query.query vs × AreAnswers s.query.query s.document vs all × (written ≡ compact_text (array (json_rows vs (take most (to_come k t vs all)))))
     × (more ≡ nat_lt most (length (to_come k t vs all))) × IsSessionOver k new (giving (length (take most (to_come k t vs all))) t) all in
     let here : P mid.vars = (o.kept.names, o.answers, h.rows, h.tells, h.now) in
     let (names, answers, shown, tells, now) = subst P same here in

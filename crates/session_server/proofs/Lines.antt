@@ -1,5 +1,6 @@
 -- The lines that were served so far, and all of them.
-use Rattle.std.proofs.Common.{arith, ◌≡◌, ◌⊎◌, ◌+◌, ◌<◌, ◌≤◌, ℕ, Bool, true, false, List, [], ◌∷◌, ◌++◌, length, Option, Some, None, Ok, Err, inl, inr, refl, sym, ap, ◌∙◌, subst, append_assoc, append-nil, length-append}
+use Rattle.std.proofs.Common.{arith, ◌≡◌, ◌⊎◌, ◌+◌, ◌<◌, ◌≤◌, ℕ, Bool, true, false, List, [], ◌∷◌, ◌++◌, length, Option, Some, None, Ok, Err, inl, inr, refl, sym, ap}
+use Rattle.std.proofs.Common.{◌∙◌, subst, append_assoc, append-nil, length-append}
 use Rattle.std.specs.Prelude.{codes}
 use Rattle.std.specs.Io.KnownBytes.{Appends}
 use Rattle.std.proofs.KnownBytes.{Appends-nil, Appends-trans}
@@ -27,10 +28,12 @@ takes_more : (old mid now : Option (List ℕ)) (texts : List (List ℕ)) (text :
 takes_more old mid now [] text t one = (now, subst (λ (o : Option (List ℕ)). TakesLine o text now) t one, refl)
 takes_more old mid now (x ∷ texts) text (next, here, later) one = (next, here, takes_more next mid now texts text later one)
 
-replied_more : (k : Known) (all mid after : Sessions) (texts : List (List ℕ)) (replies : List Reply) (text : List ℕ) (reply : Reply) → AreReplies k all texts replies mid → IsReply k mid text reply after →
+replied_more : (k : Known) (all mid after : Sessions) (texts : List (List ℕ)) (replies : List Reply) (text : List ℕ) (reply : Reply) → AreReplies k all texts replies mid →
+    IsReply k mid text reply after →
     AreReplies k all (texts ++ text ∷ []) (replies ++ reply ∷ []) after
 replied_more k all mid after _ _ text reply no_line one = first_line one no_line
-replied_more k all mid after _ _ text reply (first_line {mid = next} {texts = texts} {replies = replies} here later) one = first_line here (replied_more k next mid after texts replies text reply later one)
+replied_more k all mid after _ _ text reply (first_line {mid = next} {texts = texts} {replies = replies} here later) one =
+    first_line here (replied_more k next mid after texts replies text reply later one)
 
 text_more : (replies : List Reply) (reply : Reply) → replies_text (replies ++ reply ∷ []) ≡ replies_text replies ++ reply_text reply
 text_more replies reply = flat_map-append reply_text replies (reply ∷ []) ∙ ap (λ (xs : List ℕ). replies_text replies ++ xs) (append-nil (reply_text reply))
@@ -63,7 +66,8 @@ module _ (k : Known) (most : ℕ) (start now before after : Option (List ℕ)) (
     took = subst (λ (o : Option (List ℕ)). TakesLines o s.texts now) (sym begins) s.taken
 
     added : Adds out (replies_text s.replies)
-    added = subst (λ (o : Option (List ℕ)). Appends o out.new.bytes (replies_text s.replies)) (sym puts) (subst (λ (o : Option (List ℕ)). Appends before o (replies_text s.replies)) (sym written) s.wrote)
+    added = subst (λ (o : Option (List ℕ)). Appends o out.new.bytes (replies_text s.replies)) (sym puts)
+        (subst (λ (o : Option (List ℕ)). Appends before o (replies_text s.replies)) (sym written) s.wrote)
 
     pub ends_served : IsSpent now → IsSpent source.new.bytes → ServesLines k most source out status.Done (line (codes "end"))
     ends_served spent end = all_served s.texts s.replies now took spent end few_texts run added (record { ends = refl; says = refl })
@@ -115,12 +119,17 @@ module _ (k : Known) (most : ℕ) (start now before after : Option (List ℕ)) (
         (subst (λ (o : Option (List ℕ)). TakesLines start (s.texts ++ text ∷ []) o) (sym goes) (takes_more start now new s.texts text s.taken one)))
         more_few
         (record { after = all; replied = replied_more k [] s.all all s.texts s.replies text reply s.replied answers })
-        (record { part = all_text ++ part.part; added = subst (λ (o : Option (List ℕ)). Appends o out.new.bytes (all_text ++ part.part)) (sym puts) added; prefix = record { rest = part.prefix.rest; joined = joined } })
+        (record {
+          part = all_text ++ part.part;
+          added = subst (λ (o : Option (List ℕ)). Appends o out.new.bytes (all_text ++ part.part)) (sym puts) added;
+          prefix = record { rest = part.prefix.rest; joined = joined };
+        })
         failed (record { ends = refl; says = refl })
 
 -- ---- in the code's shapes
 
-pub ended_as : (k : Known) (most : ℕ) (source out : Change) (end wanted : Status) (note text : List ℕ) → end ≡ wanted → note ≡ text → ServesLines k most source out wanted text → ServesLines k most source out end note
+pub ended_as : (k : Known) (most : ℕ) (source out : Change) (end wanted : Status) (note text : List ℕ) → end ≡ wanted → note ≡ text → ServesLines k most source out wanted text →
+    ServesLines k most source out end note
 ended_as k most source out end wanted note text is says done =
     subst (λ (e : Status). ServesLines k most source out e note) (sym is) (subst (λ (n : List ℕ). ServesLines k most source out wanted n) (sym says) done)
 
@@ -187,12 +196,14 @@ not_long left (x ∷ rest) short (Some mid, here, later) (text, after, next, lon
     let few = short.0 in
     omega (arith, same, few, long)
 
-not_more : (most : ℕ) (left text : List ℕ) (xs rest : List (List ℕ)) (new : Option (List ℕ)) → length xs ≡ most → length (xs ++ rest) ≤ most → TakesLines (Some left) rest (Some []) → TakesLine (Some left) text new → ⊥
+not_more : (most : ℕ) (left text : List ℕ) (xs rest : List (List ℕ)) (new : Option (List ℕ)) → length xs ≡ most → length (xs ++ rest) ≤ most → TakesLines (Some left) rest (Some []) →
+    TakesLine (Some left) text new → ⊥
 not_more most left text xs [] (Some new) many few t next = let e : left ≡ [] = cc in no_next text new (subst (λ (bs : List ℕ). NextLine bs text new) e next)
 not_more most left text xs [] None many few t next = next
 not_more most left text xs (x ∷ rest) new many few t next = let e = length-append xs (x ∷ rest) in absurd (omega (arith, e, many, few))
 
-module _ (k : Known) (most : ℕ) (source out notes : Change) (result : Status) (bytes : List ℕ) (texts : List (List ℕ)) (is : source.old.bytes ≡ Some bytes) (lines : TakesLines (Some bytes) texts (Some []))
+module _ (k : Known) (most : ℕ) (source out notes : Change) (result : Status) (bytes : List ℕ) (texts : List (List ℕ)) (is : source.old.bytes ≡ Some bytes)
+    (lines : TakesLines (Some bytes) texts (Some []))
     (short : AreShort texts) (few : length texts ≤ most) (quiet : ¬ Failed source) (puts : ¬ Failed out) (says : ¬ Failed notes) where
   reported : (end : Status) (note : List ℕ) → Reports end note notes result → (result ≡ end) × Adds notes note
   reported end note (whole ends adds) = (ends, adds)
@@ -221,7 +232,8 @@ module _ (k : Known) (most : ℕ) (source out notes : Change) (result : Status) 
       let taken = from_start xs now t in
       let (rest, joined, left) = left_over bytes now xs texts taken lines in
       let (held, tells) = still_told bytes xs now taken in
-      absurd (not_long held rest (short_after xs rest (subst AreShort joined short)) (subst (λ (o : Option (List ℕ)). TakesLines o rest (Some [])) tells left) (subst (IsNextLong MOST_LINE_BYTES) tells long))
+      absurd (not_long held rest (short_after xs rest (subst AreShort joined short)) (subst (λ (o : Option (List ℕ)). TakesLines o rest (Some [])) tells left)
+      (subst (IsNextLong MOST_LINE_BYTES) tells long))
   serves_them end note (too_many xs replies now next t more many served adds told) report =
       let taken = from_start xs now t in
       let (rest, joined, left) = left_over bytes now xs texts taken lines in

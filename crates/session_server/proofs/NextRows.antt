@@ -15,7 +15,8 @@ use Rattle.session_server.specs.declared.TheConstants.{MOST_GROWN, SESSION_TABLE
 use Rattle.session_server.specs.declared.session.Halt.{Halt}
 use Rattle.session_server.specs.declared.session.Halt.TheVariants as halt
 use Rattle.session_server.specs.Requests.{SessionRequest, grow_request, next_request}
-use Rattle.session_server.specs.Replies.{Answers, asking, error_of, gives, given_rows, growing, grown_to, grows, heavy_grown, long, session_of, giving, json_rows, reply_text, rows_object, Session, Sessions, changed, to_come, sessions_without}
+use Rattle.session_server.specs.Replies.{Answers, asking, error_of, gives, given_rows, growing, grown_to, grows, heavy_grown, long, session_of, giving, json_rows}
+use Rattle.session_server.specs.Replies.{reply_text, rows_object, Session, Sessions, changed, to_come, sessions_without}
 use Rattle.session_server.specs.Standing.{GivesPage, IsGrowHalt, IsRowsHalt, IsSession}
 use Rattle.session_server.specs.Open.{AreOpen, HasNone, IsFirstPlaceOf, LosesOne, RepliesTo}
 use Rattle.session_server.proofs.Grows.{kept_of}
@@ -35,7 +36,8 @@ set_open k (d ∷ cs) (t ∷ all) id (suc p) c s o none here same new =
     let at : (t.0 == id) ≡ false = grind (arith, nat_tests, number, other) in
     subst (λ (b : Bool). AreOpen k (d ∷ slice_set cs p c) (if b then (id, s) ∷ all else t ∷ changed id s all)) (sym at) (o.0, o.1, set_open k cs all id p c s o.2 none.1 here same new)
 
-pub filter_set : (cs : List Opened) (id p : ℕ) (c : Opened) → IsSomeAnd (slice_get cs p) (λ d. d.id ≡ id) → c.id ≡ id → filter (λ d. not (d.id == id)) (slice_set cs p c) ≡ filter (λ d. not (d.id == id)) cs
+pub filter_set : (cs : List Opened) (id p : ℕ) (c : Opened) → IsSomeAnd (slice_get cs p) (λ d. d.id ≡ id) → c.id ≡ id →
+    filter (λ d. not (d.id == id)) (slice_set cs p c) ≡ filter (λ d. not (d.id == id)) cs
 filter_set [] id p c here same = absurd here
 filter_set (d ∷ cs) id zero c here same =
     let a : not (c.id == id) ≡ false = grind (arith, nat_tests, same) in

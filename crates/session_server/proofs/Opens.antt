@@ -13,7 +13,8 @@ use Rattle.session_server.specs.declared.session.Session.{Session as CodeSession
 use Rattle.std.proofs.lemmas.Bool.Decides.{nat_tests}
 use Rattle.spanner_model.specs.Passing.{Known}
 use Rattle.session_server.specs.declared.answering.Opened.{Opened}
-use Rattle.session_server.specs.Replies.{Answers, IsRefused, IsReply, begun, closes, closed, error_of, full, no_request, opened, opens, refused, taken, to_no_request, to_request, wants_memory, Reply, reply_text, Session, Sessions, session_of, with_session, sessions_without}
+use Rattle.session_server.specs.Replies.{Answers, IsRefused, IsReply, begun, closes, closed, error_of, full, no_request, opened, opens, refused, taken, to_no_request}
+use Rattle.session_server.specs.Replies.{to_request, wants_memory, Reply, reply_text, Session, Sessions, session_of, with_session, sessions_without}
 use Rattle.note_texts.specs.declared.refusals.Refusal.{Refusal}
 use Rattle.note_texts.specs.declared.refusals.Refusal.TheVariants.{Note}
 use Rattle.session_server.specs.Standing.{IsBegun, IsRefusal, IsSession}
@@ -101,7 +102,8 @@ found_open k (c ∷ cs) (s ∷ all) id (suc p) o none here =
 
 -- ---- replies that leave the sessions as they are, and a close
 
-pub replies_same : {E : Type 0} (k : Known) (r : Result (Vec ℕ Global) E) (cs : List Opened) (request : SessionRequest) (reply : Reply) → ((all : Sessions) → AreOpen k cs all → Answers k all request reply all) →
+pub replies_same : {E : Type 0} (k : Known) (r : Result (Vec ℕ Global) E) (cs : List Opened) (request : SessionRequest) (reply : Reply) →
+    ((all : Sessions) → AreOpen k cs all → Answers k all request reply all) →
     IfOk r (λ s. s.items ≡ reply_text reply) → IfOk r (RepliesTo k cs cs request)
 replies_same k (Ok s) cs request reply f is = λ all o. (reply, all, f all o, is, o)
 replies_same k (Err e) cs request reply f is = tt
@@ -147,7 +149,8 @@ is_refused k cs all id text document note t d none room same held why o =
 pub why_refused : (k : Known) (t d : List ℕ) (r : Refusal) (note : Vec ℕ Global) → r ≡ Note note → IsRefusal k t d r → IsRefused k t d note.items
 why_refused k t d r note is why = let P : Refusal → Type 0 = IsRefusal k t d in (subst P is why).0
 
-pub replies_opened : (k : Known) (cs new : List Opened) (id : ℕ) (text document t d : List ℕ) (c : CodeSession) (line : Vec ℕ Global) → HasNone cs id → length cs < MOST_SESSIONS → t ≡ text → d ≡ document →
+pub replies_opened : (k : Known) (cs new : List Opened) (id : ℕ) (text document t d : List ℕ) (c : CodeSession) (line : Vec ℕ Global) → HasNone cs id → length cs < MOST_SESSIONS → t ≡ text →
+    d ≡ document →
     new ≡ cs ++ record { id = id; session = c } ∷ [] → IsBegun k t d c → line.items ≡ reply_text (opened id c.vars) → RepliesTo k cs new (open_request id text document) line
 replies_opened k cs new id text document t d c line none room same held pushed_on begins told = λ all o.
     let long = same_length k cs all o in
@@ -176,14 +179,17 @@ loses_put k (Err e) cs new id same = subst (λ (xs : List Opened). LosesOne k cs
 abbrev pub RepliesTo_line : Known → List Opened → List Opened → List ℕ → Vec ℕ Global → Type 0
 RepliesTo_line k old new text line = (all : Sessions) → AreOpen k old all → (r : Reply) × (after : Sessions) × IsReply k all text r after × (line.items ≡ reply_text r) × AreOpen k new after
 
-pub line_of_request : (k : Known) (old new : List Opened) (text : List ℕ) (request : SessionRequest) (line : Vec ℕ Global) → IsRequest text request → RepliesTo k old new request line → RepliesTo_line k old new text line
+pub line_of_request : (k : Known) (old new : List Opened) (text : List ℕ) (request : SessionRequest) (line : Vec ℕ Global) → IsRequest text request → RepliesTo k old new request line →
+    RepliesTo_line k old new text line
 line_of_request k old new text request line is replies = λ all o. let (r, after, answers, told, stands) = replies all o in (r, after, to_request is answers, told, stands)
 
-pub line_of_none : {E : Type 0} (k : Known) (cs : List Opened) (text : List ℕ) (r : Result (Vec ℕ Global) E) → IsNoRequest text → IfOk r (λ s. s.items ≡ reply_text no_request) → IfOk r (RepliesTo_line k cs cs text)
+pub line_of_none : {E : Type 0} (k : Known) (cs : List Opened) (text : List ℕ) (r : Result (Vec ℕ Global) E) → IsNoRequest text → IfOk r (λ s. s.items ≡ reply_text no_request) →
+    IfOk r (RepliesTo_line k cs cs text)
 line_of_none k cs text (Err e) none told = tt
 line_of_none k cs text (Ok s) none told = λ all o. (no_request, all, to_no_request none, told, o)
 
-pub line_of_memory : {E : Type 0} (k : Known) (old mid new : List Opened) (text : List ℕ) (request : SessionRequest) (id : ℕ) (r : Result (Vec ℕ Global) E) → IsRequest text request → id ≡ session_id request →
+pub line_of_memory : {E : Type 0} (k : Known) (old mid new : List Opened) (text : List ℕ) (request : SessionRequest) (id : ℕ) (r : Result (Vec ℕ Global) E) → IsRequest text request →
+    id ≡ session_id request →
     LosesOne k old mid (session_id request) → new ≡ filter (λ c. not (c.id == id)) mid → IfOk r (λ s. s.items ≡ reply_text (error_of id (codes "memory"))) → IfOk r (RepliesTo_line k old new text)
 line_of_memory k old mid new text request id (Err e) is same loses closed_now told = tt
 line_of_memory k old mid new text request id (Ok s) is same loses closed_now told = λ all o.

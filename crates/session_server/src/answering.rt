@@ -4,14 +4,14 @@ ghost use Rattle.std.specs.Str.{IsUtf8};
 ghost use Rattle.spanner_model.specs.Passing.{Known, known};
 ghost use Rattle.note_texts.specs.Notes.{table_note};
 ghost use Rattle.session_server.specs.declared.TheConstants.{SESSION_TABLE};
-ghost use Rattle.session_server.specs.Asked.{request_of};
-ghost use Rattle.session_server.specs.Requests.{close_request, grow_request, next_request, open_request, session_id as id_of};
+ghost use Rattle.session_server.specs.Asked.{opening_of, request_of};
+ghost use Rattle.session_server.specs.Requests.{close_request, grow_request, next_request, session_id as id_of};
 ghost use Rattle.session_server.specs.Replies.{IsReply, Reply, Sessions, error_of as error_reply, opened as opened_reply, reply_text};
 ghost use Rattle.session_server.specs.Open.{AreOpen, HasNone, IsFirstPlaceOf, LosesOne, RepliesTo};
 
 use crate::MOST_SESSIONS;
 use crate::replies::{closed, error_of, given, grown, no_request, opened};
-use crate::requests::{SessionRequest, request_in, value_of};
+use crate::requests::{OpenRequest, SessionRequest, request_in, value_of};
 use crate::session::{Halt, Session, of_table};
 use note_texts::Refusal;
 use span_core::{OutOfMemory, Steps};
@@ -66,14 +66,11 @@ fn answer_request<J: Judge, L: Ledger>(
 ) -> Result<Vec<u8>, OutOfMemory>
     requires stands { (all : Sessions) × AreOpen (known tests.now J.judges) sessions.old.items all }
     ensures reply { IfOk result (RepliesTo (known tests.now J.judges) sessions.old.items sessions.new.items (request_of request.entry)) }
-    ensures memory { OnErr result (LosesOne (known tests.now J.judges) sessions.old.items sessions.new.items (id_of (request_of request.entry))) }
+    ensures memory { OnErr result
+        (LosesOne (known tests.now J.judges) sessions.old.items sessions.new.items (id_of (request_of request.entry))) }
 {
     match request {
-        SessionRequest::Open {
-            id,
-            query,
-            document,
-        } => answer_open(alloc, tests, sessions, id, query, document, steps),
+        SessionRequest::Open(asked) => answer_open(alloc, tests, sessions, &asked, steps),
         SessionRequest::Next { id, most } => answer_next(alloc, tests, sessions, id, most, steps),
         SessionRequest::Grow { id, text } => answer_grow(alloc, sessions, id, text, steps),
         SessionRequest::Close { id } => answer_close(alloc, sessions, id),
@@ -87,24 +84,22 @@ fn answer_open<J: Judge, L: Ledger>(
     alloc: Global,
     tests: &Tests<J>,
     sessions: &mut Vec<Opened>,
-    id: u32,
-    query: &str,
-    document: &str,
+    asked: &OpenRequest<'_>,
     steps: &mut Steps<L>,
 ) -> Result<Vec<u8>, OutOfMemory>
-    ensures reply { IfOk result (RepliesTo (known tests.now J.judges) sessions.old.items sessions.new.items (open_request id query.now document.now)) }
-    ensures memory { OnErr result (LosesOne (known tests.now J.judges) sessions.old.items sessions.new.items id) }
+    ensures reply { IfOk result (RepliesTo (known tests.now J.judges) sessions.old.items sessions.new.items (opening_of asked.now)) }
+    ensures memory { OnErr result (LosesOne (known tests.now J.judges) sessions.old.items sessions.new.items asked.now.id) }
 {
-    if place_of(sessions, id).is_some() {
-        return error_of(alloc, id, "taken");
+    if place_of(sessions, asked.id).is_some() {
+        return error_of(alloc, asked.id, "taken");
     }
     if sessions.len() >= MOST_SESSIONS {
-        return error_of(alloc, id, "full");
+        return error_of(alloc, asked.id, "full");
     }
-    if document.len() > MOST_DOCUMENT {
+    if asked.document.len() > MOST_DOCUMENT {
         return Err(OutOfMemory);
     }
-    open_new(alloc, tests, sessions, id, query, document, steps)
+    open_new(alloc, tests, sessions, asked, steps)
 }
 
 /// Opens a session where there is room for one of this number.
@@ -112,21 +107,19 @@ fn open_new<J: Judge, L: Ledger>(
     alloc: Global,
     tests: &Tests<J>,
     sessions: &mut Vec<Opened>,
-    id: u32,
-    query: &str,
-    document: &str,
+    asked: &OpenRequest<'_>,
     steps: &mut Steps<L>,
 ) -> Result<Vec<u8>, OutOfMemory>
-    requires none { HasNone sessions.old.items id }
+    requires none { HasNone sessions.old.items asked.now.id }
     requires room { length sessions.old.items < MOST_SESSIONS }
-    requires few { length document.now ≤ 2 ^ 28 }
-    ensures reply { IfOk result (RepliesTo (known tests.now J.judges) sessions.old.items sessions.new.items (open_request id query.now document.now)) }
-    ensures memory { OnErr result (LosesOne (known tests.now J.judges) sessions.old.items sessions.new.items id) }
+    requires few { length asked.now.document.now ≤ 2 ^ 28 }
+    ensures reply { IfOk result (RepliesTo (known tests.now J.judges) sessions.old.items sessions.new.items (opening_of asked.now)) }
+    ensures memory { OnErr result (LosesOne (known tests.now J.judges) sessions.old.items sessions.new.items asked.now.id) }
 {
-    let (query, document) = (query.as_bytes(), document.as_bytes());
+    let (query, document) = (asked.query.as_bytes(), asked.document.as_bytes());
     match Session::open(alloc, tests, query, document, steps) {
-        Ok(session) => put_opened(alloc, sessions, id, session),
-        Err(Refusal::Note(note)) => refused(alloc, id, &note),
+        Ok(session) => put_opened(alloc, sessions, asked.id, session),
+        Err(Refusal::Note(note)) => refused(alloc, asked.id, &note),
         Err(Refusal::OutOfMemory) => Err(OutOfMemory),
     }
 }

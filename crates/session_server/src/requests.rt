@@ -14,25 +14,21 @@ use span_core::OutOfMemory;
 use std::alloc::Global;
 use std::collections::btree_map::Iter;
 
+/// What an open asks: a session with this number, for the rows of a query's text on a document.
+#[derive(Clone, Copy)]
+pub(crate) struct OpenRequest<'v> {
+    pub(crate) id: u32,
+    pub(crate) query: &'v str,
+    pub(crate) document: &'v str,
+}
+
 /// What is asked of the session with this number.
 #[derive(Clone, Copy)]
 pub(crate) enum SessionRequest<'v> {
-    Open {
-        id: u32,
-        query: &'v str,
-        document: &'v str,
-    },
-    Next {
-        id: u32,
-        most: u32,
-    },
-    Grow {
-        id: u32,
-        text: &'v str,
-    },
-    Close {
-        id: u32,
-    },
+    Open(OpenRequest<'v>),
+    Next { id: u32, most: u32 },
+    Grow { id: u32, text: &'v str },
+    Close { id: u32 },
 }
 
 impl SessionRequest<'_> {
@@ -40,7 +36,7 @@ impl SessionRequest<'_> {
         ensures { result ≡ id_of (request_of self.now) }
     {
         match self {
-            SessionRequest::Open { id, .. } => *id,
+            SessionRequest::Open(asked) => asked.id,
             SessionRequest::Next { id, .. } => *id,
             SessionRequest::Grow { id, .. } => *id,
             SessionRequest::Close { id } => *id,
@@ -93,7 +89,8 @@ fn request_with(members: &Map<String, Value>) -> Option<SessionRequest<'_>>
 
 fn open_in(members: &Map<String, Value>) -> Option<SessionRequest<'_>>
     ensures some { IfSome result (λ r. IsObjectOf (object (members_view members.now.entries)) (request_of r)) }
-    ensures none { IfNone result ((id : ℕ) (query document : List ℕ) → ¬ IsObjectOf (object (members_view members.now.entries)) (open_request id query document)) }
+    ensures none { IfNone result ((id : ℕ) (query document : List ℕ) →
+        ¬ IsObjectOf (object (members_view members.now.entries)) (open_request id query document)) }
 {
     let mut left = members.iter();
     let Some(document) = text(&mut left, "doc") else {
@@ -111,11 +108,11 @@ fn open_in(members: &Map<String, Value>) -> Option<SessionRequest<'_>>
     if !is_empty(&mut left) {
         return None;
     }
-    Some(SessionRequest::Open {
+    Some(SessionRequest::Open(OpenRequest {
         id,
         query,
         document,
-    })
+    }))
 }
 
 fn next_in(members: &Map<String, Value>) -> Option<SessionRequest<'_>>
@@ -146,7 +143,8 @@ fn next_in(members: &Map<String, Value>) -> Option<SessionRequest<'_>>
 
 fn grow_in(members: &Map<String, Value>) -> Option<SessionRequest<'_>>
     ensures some { IfSome result (λ r. IsObjectOf (object (members_view members.now.entries)) (request_of r)) }
-    ensures none { IfNone result ((id : ℕ) (more : List ℕ) → ¬ IsObjectOf (object (members_view members.now.entries)) (grow_request id more)) }
+    ensures none { IfNone result ((id : ℕ) (more : List ℕ) →
+        ¬ IsObjectOf (object (members_view members.now.entries)) (grow_request id more)) }
 {
     let mut left = members.iter();
     let Some(id) = session_id(&mut left) else {
@@ -220,7 +218,8 @@ fn whole(left: &mut Iter<'_, String, Value>, name: &str) -> Option<u64>
 fn session_id(left: &mut Iter<'_, String, Value>) -> Option<u32>
     ensures some { IfSome result (λ id. TakesMember whole_number (codes "id") (members_view left.old) (Some id) (members_view left.new)) }
     ensures small { IfSome result (λ id. id < 2 ^ 32) }
-    ensures none { IfNone result ((id : ℕ) → id < 2 ^ 32 → (rest : _) → members_view left.old ≢ member_of (codes "id") (whole_number id) rest) }
+    ensures none { IfNone result ((id : ℕ) → id < 2 ^ 32 → (rest : _) →
+        members_view left.old ≢ member_of (codes "id") (whole_number id) rest) }
 {
     match whole(left, "id") {
         Some(id) => {

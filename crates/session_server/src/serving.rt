@@ -85,7 +85,9 @@ fn serve_lines<R: Source, O: Sink, J: Judge, L: Ledger>(
 
 /// A request is longer than any that is answered.
 fn too_long(alloc: Global) -> Outcome
-    ensures { Is result.status (note_bytes result.note) Status.Long (number_between (codes "request longer than ") MOST_LINE_BYTES (codes " bytes")) ⊎ IsOutOfMemory result.status (note_bytes result.note) }
+    ensures { Is result.status (note_bytes result.note) Status.Long
+        (number_between (codes "request longer than ") MOST_LINE_BYTES (codes " bytes"))
+        ⊎ IsOutOfMemory result.status (note_bytes result.note) }
 {
     let most = MOST_LINE_BYTES as u64;
     Outcome::with(alloc, Status::Long, &Note::RequestTooLong { most })

@@ -43,4 +43,7 @@ returns g c =
     let has = some_is c.in_ok-value.field-0 c.in-Some.value (λ v. IsUtf8 line × (read line ≡ Some (view v))) c.in-Some.is c.in_ok-value.ensures.some in
     let request = request_of c.in-Some-request_in.request in
     let is = is_request line value request has.0 has.1 c.in-Some-request_in.ensures.some in
-    record { reply = line_of_memory k cs c.answer_request.new.sessions.items c.close.new.sessions.items line request c.id-id.result c.error_of.result is c.id-id.ensures c.in-Err.ensures.memory c.close.ensures c.error_of.ensures }
+    record {
+      reply = line_of_memory k cs c.answer_request.new.sessions.items c.close.new.sessions.items line request c.id-id.result c.error_of.result is c.id-id.ensures
+          c.in-Err.ensures.memory c.close.ensures c.error_of.ensures;
+    }

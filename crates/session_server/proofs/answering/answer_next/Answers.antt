@@ -33,7 +33,8 @@ returns-in-Ok-clause-reply g c =
     let cs = c.args.sessions.now.items in
     let at : IsFirstPlaceOf cs c.args.id c.in-Some.k = subst (λ (xs : List Opened). IsFirstPlaceOf xs c.args.id c.in-Some.k) c.deref.ensures.value c.in-Some.ensures.some in
     let (there, same) = here_at cs c.args.id c.in-Some.k c.index_mut.result.now at c.index_mut.ensures.value in
-    replies_given k c.given.result cs c.args.id c.in-Some.k c.args.most c.index_mut.result.now c.page.new.self c.in-Ok.page.rows.items c.deref-in-Ok.result.now c.in-Ok.page.more at there same c.in-Ok.ensures.given c.deref-in-Ok.ensures.value c.given.ensures
+    replies_given k c.given.result cs c.args.id c.in-Some.k c.args.most c.index_mut.result.now c.page.new.self c.in-Ok.page.rows.items c.deref-in-Ok.result.now c.in-Ok.page.more
+    at there same c.in-Ok.ensures.given c.deref-in-Ok.ensures.value c.given.ensures
 
 pub returns-in-Ok-clause-memory : goal.returns-in-Ok-clause-memory
 returns-in-Ok-clause-memory g c =
@@ -49,7 +50,8 @@ returns-in-Err-Heavy-clause-reply g c =
     let cs = c.args.sessions.now.items in
     let at : IsFirstPlaceOf cs c.args.id c.in-Some.k = subst (λ (xs : List Opened). IsFirstPlaceOf xs c.args.id c.in-Some.k) c.deref.ensures.value c.in-Some.ensures.some in
     let (there, same) = here_at cs c.args.id c.in-Some.k c.index_mut.result.now at c.index_mut.ensures.value in
-    heavy_closed k c.close_heavy.result cs c.close_heavy.new.sessions.items c.args.id c.in-Some.k c.index_mut.result.now (record { id = c.index_mut.result.now.id; session = c.page.new.self }) (next_request c.args.id c.args.most) at there same c.close_heavy.ensures.closed
+    heavy_closed k c.close_heavy.result cs c.close_heavy.new.sessions.items c.args.id c.in-Some.k c.index_mut.result.now
+    (record { id = c.index_mut.result.now.id; session = c.page.new.self }) (next_request c.args.id c.args.most) at there same c.close_heavy.ensures.closed
     (λ all s found here. let h = rows_heavy s c.in-Err-Heavy.field-0 (search rules) (c.in-Err-Heavy.ensures.halted s here) in heavy_next s found h.0 h.1) c.close_heavy.ensures.text
 
 pub returns-in-Err-Heavy-clause-memory : goal.returns-in-Err-Heavy-clause-memory
@@ -58,7 +60,8 @@ returns-in-Err-Heavy-clause-memory g c =
     let cs = c.args.sessions.now.items in
     let at : IsFirstPlaceOf cs c.args.id c.in-Some.k = subst (λ (xs : List Opened). IsFirstPlaceOf xs c.args.id c.in-Some.k) c.deref.ensures.value c.in-Some.ensures.some in
     let (there, same) = here_at cs c.args.id c.in-Some.k c.index_mut.result.now at c.index_mut.ensures.value in
-    on_err c.close_heavy.result _ (loses_closed k cs c.close_heavy.new.sessions.items c.args.id c.in-Some.k (record { id = c.index_mut.result.now.id; session = c.page.new.self }) at same c.close_heavy.ensures.closed)
+    on_err c.close_heavy.result _
+    (loses_closed k cs c.close_heavy.new.sessions.items c.args.id c.in-Some.k (record { id = c.index_mut.result.now.id; session = c.page.new.self }) at same c.close_heavy.ensures.closed)
 
 pub returns-in-Err-OutOfMemory-clause-memory : goal.returns-in-Err-OutOfMemory-clause-memory
 returns-in-Err-OutOfMemory-clause-memory g c =

@@ -1,6 +1,6 @@
 use Rattle.std.proofs.Common.{List, ℕ, sym, subst}
 use Rattle.spanner_model.specs.Passing.{known}
-use Rattle.session_server.specs.Requests.{open_request}
+use Rattle.session_server.specs.Asked.{opening_of}
 use Rattle.session_server.specs.Replies.{IsRefused, error_of}
 use Rattle.session_server.proofs.Opens.{is_refused, loses_put, loses_same, replies_put, replies_same, why_refused}
 use Rattle.note_texts.proofs.ResultLaws.{on_err}
@@ -10,32 +10,38 @@ pub returns-in-Err-Note-clause-reply : goal.returns-in-Err-Note-clause-reply
 returns-in-Err-Note-clause-reply g c =
     let k = known c.args.tests.now g.J.Judge.judges in
     let cs = c.args.sessions.now.items in
+    let asked = c.args.asked.now in
     let q = c.as_bytes-query.result.now in
     let d = c.as_bytes-document.result.now in
     let note = c.deref.result.now in
     let why = why_refused k q d c.in-Err-Note.field-0 c.in-Err-Note.note c.in-Err-Note.field-0-is c.in-Err-Note.ensures.refused in
     let here : IsRefused k q d note = subst (λ (n : List ℕ). IsRefused k q d n) (sym c.deref.ensures.value) why in
-    replies_same k c.refused.result cs (open_request c.args.id c.args.query.now c.args.document.now) (error_of c.args.id note)
-    (λ all o. is_refused k cs all c.args.id c.args.query.now c.args.document.now note q d c.requires.none c.requires.room c.as_bytes-query.ensures.value c.as_bytes-document.ensures.value here o) c.refused.ensures
+    replies_same k c.refused.result cs (opening_of asked) (error_of asked.id note)
+    (λ all o. is_refused k cs all asked.id asked.query.now asked.document.now note q d c.requires.none c.requires.room
+    c.as_bytes-query.ensures.value c.as_bytes-document.ensures.value here o) c.refused.ensures
 
 pub returns-in-Err-Note-clause-memory : goal.returns-in-Err-Note-clause-memory
 returns-in-Err-Note-clause-memory g c =
     let k = known c.args.tests.now g.J.Judge.judges in
     let cs = c.args.sessions.now.items in
-    on_err c.refused.result _ (loses_same k cs c.args.id)
+    on_err c.refused.result _ (loses_same k cs c.args.asked.now.id)
 
 pub returns-in-Err-OutOfMemory-clause-memory : goal.returns-in-Err-OutOfMemory-clause-memory
 returns-in-Err-OutOfMemory-clause-memory g c =
     let k = known c.args.tests.now g.J.Judge.judges in
     let cs = c.args.sessions.now.items in
-    loses_same k cs c.args.id
+    loses_same k cs c.args.asked.now.id
 
 pub returns-in-Ok-clause-reply : goal.returns-in-Ok-clause-reply
 returns-in-Ok-clause-reply g c =
     let k = known c.args.tests.now g.J.Judge.judges in
-    replies_put k c.put_opened.result c.args.sessions.now.items c.put_opened.new.sessions.items c.args.id c.args.query.now c.args.document.now c.as_bytes-query.result.now c.as_bytes-document.result.now
+    let asked = c.args.asked.now in
+    let q = c.as_bytes-query.result.now in
+    let d = c.as_bytes-document.result.now in
+    replies_put k c.put_opened.result c.args.sessions.now.items c.put_opened.new.sessions.items asked.id asked.query.now asked.document.now q d
     c.in-Ok.session c.requires.none c.requires.room c.as_bytes-query.ensures.value c.as_bytes-document.ensures.value c.put_opened.ensures.put c.in-Ok.ensures.opened c.put_opened.ensures.reply
 
 pub returns-in-Ok-clause-memory : goal.returns-in-Ok-clause-memory
 returns-in-Ok-clause-memory g c =
-    loses_put (known c.args.tests.now g.J.Judge.judges) c.put_opened.result c.args.sessions.now.items c.put_opened.new.sessions.items c.args.id c.put_opened.ensures.same
+    let k = known c.args.tests.now g.J.Judge.judges in
+    loses_put k c.put_opened.result c.args.sessions.now.items c.put_opened.new.sessions.items c.args.asked.now.id c.put_opened.ensures.same

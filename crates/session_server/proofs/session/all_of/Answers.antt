@@ -24,4 +24,5 @@ pub returns-in-Err-Heavy-clause-refused : goal.returns-in-Err-Heavy-clause-refus
 returns-in-Err-Heavy-clause-refused g c =
     let q = query_of c.args.compiled.query in
     let P : Halt → Type 0 = IsStartHalt q c.args.document.now in
-    heavy_table q c.args.document.now c.of_table.result c.requires.small (subst P c.in-Err-Heavy.field-0-is (c.in-Err-Heavy.ensures.halted q c.into_automaton-automaton.ensures.compiled)) c.of_table.ensures
+    heavy_table q c.args.document.now c.of_table.result c.requires.small (subst P c.in-Err-Heavy.field-0-is (c.in-Err-Heavy.ensures.halted q c.into_automaton-automaton.ensures.compiled))
+    c.of_table.ensures

@@ -15,12 +15,14 @@ advance_tested-self-requires-clause-names g c =
 
 pub advance_tested-self-requires-clause-few : goal.advance_tested-self-requires-clause-few
 advance_tested-self-requires-clause-few g c =
-    few_there (known c.args.tests.now g.J.Judge.judges) c.args.self.now c.requires.stands.0 c.rows.new.self c.in-Ok.rows.whole c.over.result.rest c.document.result.now c.document.ensures c.rows.ensures.asked c.in-Ok.ensures.rows
+    few_there (known c.args.tests.now g.J.Judge.judges) c.args.self.now c.requires.stands.0 c.rows.new.self c.in-Ok.rows.whole c.over.result.rest c.document.result.now c.document.ensures
+    c.rows.ensures.asked c.in-Ok.ensures.rows
     (c.over.ensures.rest ∙ c.in-Ok.ensures.first) c.requires.stands.1
 
 pub advance_tested-self-requires-clause-last : goal.advance_tested-self-requires-clause-last
 advance_tested-self-requires-clause-last g c =
-    last_there (known c.args.tests.now g.J.Judge.judges) c.args.self.now c.requires.stands.0 c.rows.new.self c.in-Ok.rows.whole c.over.result.rest c.document.result.now c.document.ensures c.rows.ensures.asked c.in-Ok.ensures.rows
+    last_there (known c.args.tests.now g.J.Judge.judges) c.args.self.now c.requires.stands.0 c.rows.new.self c.in-Ok.rows.whole c.over.result.rest c.document.result.now c.document.ensures
+    c.rows.ensures.asked c.in-Ok.ensures.rows
     (c.over.ensures.rest ∙ c.in-Ok.ensures.first) c.requires.stands.1
 
 pub advance_tested-self-requires-clause-bound : goal.advance_tested-self-requires-clause-bound
@@ -30,5 +32,7 @@ advance_tested-self-requires-clause-bound g c =
 
 pub returns-clause-ready : goal.returns-clause-ready
 returns-clause-ready g c = λ s w.
-    now_asked (known c.args.tests.now g.J.Judge.judges) c.args.self.now s c.rows.new.self c.in-Ok.rows.whole c.over.result.rest c.document.result.now c.document.ensures c.rows.ensures.asked c.in-Ok.ensures.rows
-    (c.over.ensures.rest ∙ c.in-Ok.ensures.first) w c.advance_tested-self.new.answers c.advance_tested-self.result c.advance_tested-self.ensures.last c.advance_tested-self.ensures.next c.advance_tested-self.ensures.none
+    now_asked (known c.args.tests.now g.J.Judge.judges) c.args.self.now s c.rows.new.self c.in-Ok.rows.whole c.over.result.rest c.document.result.now c.document.ensures c.rows.ensures.asked
+    c.in-Ok.ensures.rows
+    (c.over.ensures.rest ∙ c.in-Ok.ensures.first) w c.advance_tested-self.new.answers c.advance_tested-self.result c.advance_tested-self.ensures.last c.advance_tested-self.ensures.next
+    c.advance_tested-self.ensures.none

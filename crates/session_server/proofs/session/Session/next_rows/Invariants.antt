@@ -11,7 +11,8 @@ invariant-loop-count g l = record {
   few : l.count ≤ l.most;
   vars : l.self.vars ≡ l.fn.self.vars;
   line : l.rows.line ≡ json_kept l.fn.self.vars;
-  so_far : (s : Session) (all : List SpanRow) → IsSessionOver (known l.tests g.J.Judge.judges) l.fn.self s all → GivesSoFar (known l.tests g.J.Judge.judges) l.fn.self l.self l.count l.rows.text.items s all;
+  so_far : (s : Session) (all : List SpanRow) → IsSessionOver (known l.tests g.J.Judge.judges) l.fn.self s all →
+      GivesSoFar (known l.tests g.J.Judge.judges) l.fn.self l.self l.count l.rows.text.items s all;
 }
 
 abbrev pub decreases-loop-count : goal.decreases-loop-count

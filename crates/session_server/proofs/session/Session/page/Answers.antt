@@ -12,4 +12,5 @@ next_rows-requires g c =
 pub returns-in-Ok-clause-given : goal.returns-in-Ok-clause-given
 returns-in-Ok-clause-given g c = λ s stands.
     let (all, o) = c.in_default.ensures.ready s stands in
-    page_given (known c.args.tests.now g.J.Judge.judges) c.args.self.now c.refresh.new.self c.next_rows.new.self c.args.most c.in-Ok.page.rows.items c.in-Ok.page.more s all c.refresh.ensures.vars o (c.in-Ok.ensures.given (asking s) all o)
+    page_given (known c.args.tests.now g.J.Judge.judges) c.args.self.now c.refresh.new.self c.next_rows.new.self c.args.most c.in-Ok.page.rows.items c.in-Ok.page.more s all
+    c.refresh.ensures.vars o (c.in-Ok.ensures.given (asking s) all o)
