@@ -3,12 +3,13 @@ use Rattle.std.proofs.Common.{◌≡◌, ℕ, ◌+◌, ◌*◌, ◌<◌, ◌≤�
 use Rattle.std.proofs.lemmas.List.{drop_all, take_all}
 use Rattle.spanner_model.specs.Captures.{VarName}
 use Rattle.spanner_model.specs.Answers.{SpanRow}
+use Rattle.spanner_model.specs.declared.tested.Tested.{Tested}
 use Rattle.spanner_engine.specs.Fitting.{FitsRow}
 use Rattle.spanner_model.specs.Passing.{Check, passing}
 use Rattle.spanner_engine.specs.Trying.{IsNextPassing}
 use Rattle.spanner_engine.proofs.PassingLaws.{next_passes}
 use Rattle.spanner_library.specs.Cells.{row_cells, rows_cells}
-use Rattle.spanner_library.specs.Library.{Given}
+use Rattle.spanner_library.specs.Library.{Given, PreparedQuery}
 use Rattle.spanner_library.proofs.CellLaws.{behind_further, few_further, none_further, rest_further, room_further, rows_further}
 
 -- so many rows were given so far
@@ -88,3 +89,19 @@ room_here count most width names shown len first less room same is fits =
     let place : count * (2 * width) ≡ count * (2 * names) = ap (λ (k : ℕ). count * (2 * k)) is in
     let h = room_further count most (2 * names) first less room in
     omega (arith, place, h, same, fits)
+
+-- ---- what is said of the parts of a query
+
+module _ (q : PreparedQuery) (t : Tested) (tests : List (List ℕ × ℕ)) (names : List VarName) (tested_is : t ≡ q.tested) (tests_are : tests ≡ q.tests) (names_are : names ≡ q.names)
+    (P : Tested → List (List ℕ × ℕ) → List VarName → Type 0) where
+  -- is said of the query
+  pub of_query : P t tests names → P q.tested q.tests q.names
+  of_query p =
+      subst (λ (n : List VarName). P q.tested q.tests n) names_are
+      (subst (λ (s : List (List ℕ × ℕ)). P q.tested s names) tests_are (subst (λ (u : Tested). P u tests names) tested_is p))
+
+  -- and the other way round
+  pub of_parts : P q.tested q.tests q.names → P t tests names
+  of_parts p =
+      subst (λ (u : Tested). P u tests names) (sym tested_is)
+      (subst (λ (s : List (List ℕ × ℕ)). P q.tested s names) (sym tests_are) (subst (λ (n : List VarName). P q.tested q.tests n) (sym names_are) p))

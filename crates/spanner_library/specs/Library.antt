@@ -8,7 +8,6 @@ use Rattle.spanner_model.specs.Captures.{VarName}
 use Rattle.spanner_model.specs.Answers.{SpanRow}
 use Rattle.spanner_model.specs.Tested.{TestedTree, tested_of}
 use Rattle.spanner_model.specs.declared.tested.Tested.{Tested}
-use Rattle.query_parser.specs.declared.fault.QueryFault.{QueryFault}
 use Rattle.query_parser.specs.declared.fault.QueryFault.TheVariants as text_fault
 use Rattle.query_automaton.specs.Parts.{HasLargePart}
 use Rattle.spanner_model.specs.Passing.{Check, Known, checks_of, known, passing}

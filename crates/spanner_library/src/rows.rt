@@ -1,17 +1,13 @@
 //! Rows that are still to come.
 ghost use Rattle.std.specs.Prelude.{◌≡◌, ◌+◌, ◌*◌, ◌^◌, ◌≤◌, length};
-ghost use Rattle.spanner_model.specs.Answers.{AreResultNames};
-ghost use Rattle.spanner_model.specs.ExprView.{query_of};
 ghost use Rattle.spanner_engine.specs.Fitting.{AreLast};
-ghost use Rattle.spanner_model.specs.Passing.{AreKnown, checks_of, known};
 ghost use Rattle.spanner_library.specs.Library.{Given, checks_by, tree};
 
 use crate::Prepared;
 use crate::cells::put_row;
-use span_core::{Steps, VarSet};
-use span_tests::{Judge, Tests};
+use span_core::Steps;
+use span_tests::Judge;
 use spanner_engine::{Answers, advance_tested};
-use spanner_model::Tested;
 use std::marker::Model;
 use std::sync::ledger::Ledger;
 
@@ -65,41 +61,31 @@ impl Rows {
         ensures fewer { length self.new.rest + result ≤ length self.old.rest }
         ensures len { length out.new ≡ length out.old }
     {
-        fill_from(
-            &mut self.answers,
-            query.tested(),
-            query.vars(),
-            query.tests(),
-            document,
-            out,
-            most,
-            steps,
-        )
+        fill_from(&mut self.answers, query, document, out, most, steps)
     }
 }
 
-/// The same over answers.
+/// As `fill`, over the answers themselves.
 fn fill_from<J: Judge, L: Ledger>(
     answers: &mut Answers,
-    tested: &Tested,
-    vars: &VarSet,
-    tests: &Tests<J>,
+    query: &Prepared<J>,
     document: &[u8],
     out: &mut [u32],
     most: usize,
     steps: &mut Steps<L>,
 ) -> usize
-    requires names { AreResultNames (query_of tested.now.query) vars.now }
     requires few { length document.now ≤ 2 ^ 28 }
-    requires last { AreLast (query_of tested.now.query) document.now vars.now answers.old.rest }
-    requires bound { AreKnown (known tests.now J.judges) tested.now.asked }
-    requires room { most * (2 * length vars.now) ≤ length out.old }
-    ensures given { Given (checks_of (known tests.now J.judges) tested.now.asked) vars.now document.now answers.old.rest answers.new.rest out.old out.new most result }
-    ensures last { AreLast (query_of tested.now.query) document.now vars.now answers.new.rest }
+    requires last { AreLast (tree query.now).query document.now query.now.names answers.old.rest }
+    requires room { most * (2 * length query.now.names) ≤ length out.old }
+    ensures given { Given (checks_by J.judges query.now) query.now.names document.now answers.old.rest answers.new.rest out.old out.new most result }
+    ensures last { AreLast (tree query.now).query document.now query.now.names answers.new.rest }
     ensures variables { answers.new.variables ≡ answers.old.variables }
     ensures fewer { length answers.new.rest + result ≤ length answers.old.rest }
     ensures len { length out.new ≡ length out.old }
 {
+    let tested = query.tested();
+    let vars = query.vars();
+    let tests = query.tests();
     let width = 2 * vars.len();
     let mut count = 0;
     while count < most {

@@ -10,12 +10,18 @@ use Rattle.spanner_library.proofs.prepared.Prepared.open.Goals as goal
 
 pub returns-in-Ok-clause-steps : goal.returns-in-Ok-clause-steps
 returns-in-Ok-clause-steps g c =
-    subst (λ (p : PreparedQuery). (K : ℕ → Bool) → AreRead c.args.options.filter (tree p).query c.args.document.now K → c.begin_by.new.steps ≤ c.args.steps.now + begin_steps c.args.options.filter (tree p).query c.args.document.now K (row_kept (option_copied c.args.after)))
+    let d = c.args.document.now in
+    let filter = c.args.options.filter in
+    let kept = row_kept (option_copied c.args.after) in
+    subst (λ (p : PreparedQuery). (K : ℕ → Bool) → AreRead filter (tree p).query d K → c.begin_by.new.steps ≤ c.args.steps.now + begin_steps filter (tree p).query d K kept)
     c.self.view_is c.begin_by.ensures.steps
 
 pub returns-in-Err-clause-steps : goal.returns-in-Err-clause-steps
 returns-in-Err-clause-steps g c =
-    subst (λ (p : PreparedQuery). (K : ℕ → Bool) → AreRead c.args.options.filter (tree p).query c.args.document.now K → c.begin_by.new.steps ≤ c.args.steps.now + begin_steps c.args.options.filter (tree p).query c.args.document.now K (row_kept (option_copied c.args.after)))
+    let d = c.args.document.now in
+    let filter = c.args.options.filter in
+    let kept = row_kept (option_copied c.args.after) in
+    subst (λ (p : PreparedQuery). (K : ℕ → Bool) → AreRead filter (tree p).query d K → c.begin_by.new.steps ≤ c.args.steps.now + begin_steps filter (tree p).query d K kept)
     c.self.view_is c.begin_by.ensures.steps
 
 pub returns-in-Ok-clause-last : goal.returns-in-Ok-clause-last

@@ -1,5 +1,4 @@
-use Rattle.std.proofs.Common.{ap, sym, subst}
-use Rattle.spanner_model.specs.declared.query.Query.{Query}
+use Rattle.std.proofs.Common.{sym, subst}
 use Rattle.spanner_model.specs.ExprView.{query_of}
 use Rattle.spanner_model.specs.Answers.{AreResultNames}
 use Rattle.marked_automaton.specs.Automaton.{Marked}
@@ -13,7 +12,8 @@ returns-in-Err-clause-refused g c = refused_text (known c.args.tests g.J.Judge.j
 
 pub returns-in-Err-bind-clause-refused : goal.returns-in-Err-bind-clause-refused
 returns-in-Err-bind-clause-refused g c =
-    refused_unknown (known c.args.tests g.J.Judge.judges) c.args.text.now c.in-Err-bind.fault (tested_of c.in-Ok.tested) c.in-Ok.ensures.found (only_of c.args.text.now c.in-Ok.tested c.in-Ok.ensures.only) c.in-Err-bind.ensures.fault
+    refused_unknown (known c.args.tests g.J.Judge.judges) c.args.text.now c.in-Err-bind.fault (tested_of c.in-Ok.tested) c.in-Ok.ensures.found
+    (only_of c.args.text.now c.in-Ok.tested c.in-Ok.ensures.only) c.in-Err-bind.ensures.fault
 
 pub returns-clause-query : goal.returns-clause-query
 returns-clause-query g c = record {
