@@ -4,8 +4,9 @@ ghost use Rattle.rm_outside.specs.Status.{exit_status_of};
 ghost use Rattle.rematch_c.specs.Calls.{Counted, Filled, Holds, Named, Opened, Printed, Resumed, Shared};
 ghost use Rattle.rematch_c.specs.Texts.{IsText};
 
+use crate::open_rows::ReadRequest;
 use crate::shared_query::out_of_memory;
-use crate::{OpenRows, ReadOptions, SharedQuery, ShortText, Slot};
+use crate::{OpenRows, SharedQuery, ShortText, Slot};
 use memory_run::MemoryRun;
 use rm_outside::Status;
 use std::alloc::Global;
@@ -96,19 +97,18 @@ pub(crate) fn share(alloc: Global, held: &Held, other: &mut Slot) -> Status
 pub(crate) fn open(
     alloc: Global,
     held: &Held,
-    document: &[u8],
-    options: &ReadOptions,
+    asked: &ReadRequest<'_>,
     rows: &mut Slot,
     note: &mut ShortText,
 ) -> Status
     requires empty { rows.old.handle.home ≡ None }
     requires silent { IsText note.old [] }
-    ensures { Opened (Some held.now) document.now options.now rows.new.handle.home note.new (exit_status_of result) }
+    ensures { Opened (Some held.now) asked.now.document.now asked.now.options.now rows.new.handle.home note.new (exit_status_of result) }
 {
     let Held::Query(query) = held else {
         return Status::Words;
     };
-    match OpenRows::read::<Brand>(alloc, Blank::new(1), query, document, None, options, note) {
+    match OpenRows::read::<Brand>(alloc, Blank::new(1), query, asked, None, note) {
         Ok(read) => hold(alloc, rows, Held::Rows(read), note),
         Err(status) => status,
     }
@@ -118,20 +118,20 @@ pub(crate) fn open(
 pub(crate) fn resume(
     alloc: Global,
     held: &Held,
-    document: &[u8],
+    asked: &ReadRequest<'_>,
     cursor: &[u8],
-    options: &ReadOptions,
     rows: &mut Slot,
     note: &mut ShortText,
 ) -> Status
     requires empty { rows.old.handle.home ≡ None }
     requires silent { IsText note.old [] }
-    ensures { Resumed (Some held.now) document.now cursor.now options.now rows.new.handle.home note.new (exit_status_of result) }
+    ensures { Resumed (Some held.now) asked.now.document.now cursor.now asked.now.options.now
+        rows.new.handle.home note.new (exit_status_of result) }
 {
     let Held::Query(query) = held else {
         return Status::Words;
     };
-    match OpenRows::resume::<Brand>(alloc, Blank::new(1), query, document, cursor, options, note) {
+    match OpenRows::resume::<Brand>(alloc, Blank::new(1), query, asked, cursor, note) {
         Ok(read) => hold(alloc, rows, Held::Rows(read), note),
         Err(status) => status,
     }

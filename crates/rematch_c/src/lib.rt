@@ -14,6 +14,7 @@ ghost use Rattle.rematch_c.specs.Runs.{DocumentAdded, Ended, RunBegun, WordAdded
 pub use handle::Handle;
 pub use held::Held;
 use held::{hold, number_of};
+use open_rows::ReadRequest;
 pub use open_rows::{OpenRows, ReadOptions};
 use rm_outside::Status;
 pub use runs::Written;
@@ -120,7 +121,8 @@ pub extern "C" fn rematch_c_open(
     let Some(owned) = query.take(alloc) else {
         return number_of(Status::Words);
     };
-    let status = held::open(alloc, &owned, document, options, rows, note);
+    let asked = ReadRequest { document, options };
+    let status = held::open(alloc, &owned, &asked, rows, note);
     query.put(owned);
     number_of(status)
 }
@@ -145,7 +147,8 @@ pub extern "C" fn rematch_c_resume(
     let Some(owned) = query.take(alloc) else {
         return number_of(Status::Words);
     };
-    let status = held::resume(alloc, &owned, document, cursor, options, rows, note);
+    let asked = ReadRequest { document, options };
+    let status = held::resume(alloc, &owned, &asked, cursor, rows, note);
     query.put(owned);
     number_of(status)
 }

@@ -43,6 +43,13 @@ pub struct ReadOptions {
     pub filter: bool,
 }
 
+/// What is asked to be read: a document, and how.
+#[derive(Clone, Copy)]
+pub(crate) struct ReadRequest<'d> {
+    pub(crate) document: &'d [u8],
+    pub(crate) options: &'d ReadOptions,
+}
+
 /// Rows that are still to come, with their query and a copy of their document.
 #[derive(Drop)]
 pub struct OpenRows {
@@ -73,32 +80,32 @@ impl OpenRows {
         alloc: Global,
         blank: Blank,
         query: &SharedQuery,
-        document: &[u8],
+        asked: &ReadRequest<'_>,
         after: Option<&Kept>,
-        options: &ReadOptions,
         note: &mut ShortText,
     ) -> Result<OpenRows, Status>
         requires name { blank.name ≡ L.name }
         requires parts { blank.parts ≡ L.parts }
         requires some { 0 < L.parts }
         requires row { IfSome (option_copied after) (λ kept. length kept.row ≡ length query.now.names) }
-        ensures rows { IfOk result (AreRowsAfter query.now document.now (row_kept (option_copied after.entry))) }
+        ensures rows { IfOk result (AreRowsAfter query.now asked.now.document.now (row_kept (option_copied after.entry))) }
         ensures silent { OnOk result (IsText note.new []) }
-        ensures refused { IfErr result (λ status. IsReadRefusal query.now document.now options.now (option_copied after.entry) status note.new) }
+        ensures refused { IfErr result (λ status.
+            IsReadRefusal query.now asked.now.document.now asked.now.options.now (option_copied after.entry) status note.new) }
     {
-        if document.len() as u64 > MOST_DOCUMENT {
+        if asked.document.len() as u64 > MOST_DOCUMENT {
             return Err(too_long(alloc, note));
         }
         let options = Options {
-            filter: options.filter,
-            limit: options.max_table.min(MOST_TABLE),
+            filter: asked.options.filter,
+            limit: asked.options.max_table.min(MOST_TABLE),
         };
         let mut steps = Steps::<L>::new(blank);
         match query
             .prepared()
-            .open(alloc, document, after, options, &mut steps)
+            .open(alloc, asked.document, after, options, &mut steps)
         {
-            Ok(rows) => kept(alloc, query, document, rows, note),
+            Ok(rows) => kept(alloc, query, asked.document, rows, note),
             Err(fault) => Err(unread(alloc, options.limit, fault, note)),
         }
     }
@@ -108,28 +115,20 @@ impl OpenRows {
         alloc: Global,
         blank: Blank,
         query: &SharedQuery,
-        document: &[u8],
+        asked: &ReadRequest<'_>,
         cursor: &[u8],
-        options: &ReadOptions,
         note: &mut ShortText,
     ) -> Result<OpenRows, Status>
         requires name { blank.name ≡ L.name }
         requires parts { blank.parts ≡ L.parts }
         requires some { 0 < L.parts }
-        ensures rows { IfOk result (AreRowsBehind query.now document.now cursor.now) }
+        ensures rows { IfOk result (AreRowsBehind query.now asked.now.document.now cursor.now) }
         ensures silent { OnOk result (IsText note.new []) }
-        ensures refused { IfErr result (λ status. IsResumeRefusal query.now document.now cursor.now options.now status note.new) }
+        ensures refused { IfErr result (λ status.
+            IsResumeRefusal query.now asked.now.document.now cursor.now asked.now.options.now status note.new) }
     {
         match row_cursor::read(cursor, query.prepared().vars()) {
-            Ok(kept) => OpenRows::read::<L>(
-                alloc,
-                blank,
-                query,
-                document,
-                Some(&kept),
-                options,
-                note,
-            ),
+            Ok(kept) => OpenRows::read::<L>(alloc, blank, query, asked, Some(&kept), note),
             Err(CursorFault::Syntax) => {
                 let none = Note::Fixed(FixedNote::NotACursor);
                 Err(said(alloc, Status::Cursor, &none, note))
@@ -144,7 +143,8 @@ impl OpenRows {
     /// The row of which these are the numbers, if they are those of a row within the document.
     pub(crate) fn row_of(&self, numbers: &[u32]) -> Option<Row>
         ensures some { IfSome result (IsRowIn (length self.now.query.names) (length self.now.document) numbers.now) }
-        ensures none { IfNone result ((row : SpanRow) → IsRowIn (length self.now.query.names) (length self.now.document) numbers.now row → ⊥) }
+        ensures none { IfNone result ((row : SpanRow) →
+            IsRowIn (length self.now.query.names) (length self.now.document) numbers.now row → ⊥) }
     {
         row_of(
             numbers,
@@ -171,7 +171,8 @@ impl OpenRows {
         requires parts { blank.parts ≡ L.parts }
         requires some { 0 < L.parts }
         requires room { most * (2 * length self.old.query.names) ≤ length out.old }
-        ensures given { Given (checks_by relation self.old.query) self.old.query.names self.old.document self.old.rest self.new.rest out.old out.new most result }
+        ensures given { Given (checks_by relation self.old.query) self.old.query.names self.old.document
+            self.old.rest self.new.rest out.old out.new most result }
         ensures query { self.new.query ≡ self.old.query }
         ensures document { self.new.document ≡ self.old.document }
         ensures len { length out.new ≡ length out.old }
