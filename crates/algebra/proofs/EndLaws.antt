@@ -50,4 +50,5 @@ pub joins_of_few_ends : JoinsOfFewEnds
 joins_of_few_ends A B = (few, λ within count h. omega (arith, few (all_names A.names B.names), within, h.0, h.1))
   where
     few : (all : List VarName) → length (join_over A B all).stops ≤ length A.graph.stops * length B.graph.stops
-    few all = pairs_no_more (ends_with (agree_on A.names B.names all) (joined A.names B.names all)) (pair_stop (agree_on A.names B.names all) (joined A.names B.names all) B.graph.states) B.graph.stops A.graph.stops
+    few all = pairs_no_more (ends_with (agree_on A.names B.names all) (joined A.names B.names all))
+        (pair_stop (agree_on A.names B.names all) (joined A.names B.names all) B.graph.states) B.graph.stops A.graph.stops

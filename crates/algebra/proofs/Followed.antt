@@ -244,5 +244,6 @@ some_bytes bytes n = go (set.items bytes) refl
   where
     go : (xs : List ℕ) → set.items bytes ≡ xs → is_some_list (set.items bytes) ≡ true
     go [] e =
-        absurd (n (set.same_set nat_cmp_total set.nat_cmp-IsAntisymmetric bytes set.empty (λ q. set.contains-items bytes q ∙ (ap (list_any (eq_by_cmp nat_cmp q)) e ∙ sym (set.contains-empty nat_cmp q)))))
+        absurd (n (set.same_set nat_cmp_total set.nat_cmp-IsAntisymmetric bytes set.empty (λ q. set.contains-items bytes q ∙
+        (ap (list_any (eq_by_cmp nat_cmp q)) e ∙ sym (set.contains-empty nat_cmp q)))))
     go (x ∷ xs) e = ap is_some_list e

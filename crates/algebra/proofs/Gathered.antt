@@ -138,7 +138,8 @@ module _ {X Y R : Type 0} (at1 : X → ℕ) (at2 : Y → ℕ) (test : X → Y �
       split : filter (made_at k) (pairs test make ys (x ∷ xs)) ≡ filter (made_at k) (map (make x) (filter (test x) ys)) ++ filter (made_at k) (pairs test make ys xs)
       split = filter-append (made_at k) (map (make x) (filter (test x) ys)) (pairs test make ys xs)
 
-      go : (b : Bool) → (of_left k) x ≡ b → filter (made_at k) (pairs test make ys xs) ≡ flat_map (row k ys) (filter (of_left k) xs) → filter (made_at k) (pairs test make ys (x ∷ xs)) ≡ flat_map (row k ys) (filter (of_left k) (x ∷ xs))
+      go : (b : Bool) → (of_left k) x ≡ b → filter (made_at k) (pairs test make ys xs) ≡ flat_map (row k ys) (filter (of_left k) xs) →
+          filter (made_at k) (pairs test make ys (x ∷ xs)) ≡ flat_map (row k ys) (filter (of_left k) (x ∷ xs))
       go true e rest =
           split ∙ (ap (λ zs. zs ++ filter (made_at k) (pairs test make ys xs)) (row_here k x e ys)
           ∙ (ap (λ zs. (row k ys) x ++ zs) rest ∙ sym (ap (flat_map (row k ys)) (filter_yes (of_left k) x xs e))))

@@ -357,8 +357,10 @@ module _ {A B : Marked} (a : IsMarked A) (b : IsMarked B) (all : List VarName) w
           let wy = b.idle_ways k.right h.3 in
           let x = half_way own1 shared1 (idle_way k.left) in
           let y = half_way own2 shared2 (idle_way k.right) in
-          let hx : Has (those_at half_from k.left X) x = has_filter (λ z. nat_eq (half_from z) k.left) X x (Has-map (half_way own1 shared1) A.graph.ways (idle_way k.left) wx) (eq-eqb k.left k.left refl) in
-          let hy : Has (those_at half_from k.right Y) y = has_filter (λ z. nat_eq (half_from z) k.right) Y y (Has-map (half_way own2 shared2) B.graph.ways (idle_way k.right) wy) (eq-eqb k.right k.right refl) in
+          let hx : Has (those_at half_from k.left X) x =
+          has_filter (λ z. nat_eq (half_from z) k.left) X x (Has-map (half_way own1 shared1) A.graph.ways (idle_way k.left) wx) (eq-eqb k.left k.left refl) in
+          let hy : Has (those_at half_from k.right Y) y =
+          has_filter (λ z. nat_eq (half_from z) k.right) Y y (Has-map (half_way own2 shared2) B.graph.ways (idle_way k.right) wy) (eq-eqb k.right k.right refl) in
           let some : has_some (meet all_bytes all_bytes) ≡ true = ap has_some (meet_itself all_bytes) ∙ some_bytes all_bytes (a.some_byte (idle_way k.left) wx) in
           let agrees : nat_eq x.shared y.shared ≡ true = eq-eqb x.shared y.shared (moved_none shared1 ∙ sym (moved_none shared2)) in
           let ok : ways_meet x y ≡ true = both_true (nat_eq x.shared y.shared) (has_some (meet all_bytes all_bytes)) agrees some in

@@ -433,7 +433,8 @@ module _ (agree : ℕ → ℕ → Bool) (both : ℕ → ℕ → ℕ) where
         let q : s.1 ≡ r.1 = sym s.21 ∙ r.21 in
         let v : s.2 ≡ r.2 = some_same s.2 r.2 (sym s.4 ∙ (ap f1 p ∙ r.4)) in
         let w : s.3 ≡ r.3 = some_same s.3 r.3 (sym s.5 ∙ (ap f2 q ∙ r.5)) in
-        let spots_same : spot (e1 r.0 r.6) (e2 r.1 r.7) ≡ spot (e1 s.0 s.6) (e2 s.1 s.7) = some_same (spot (e1 r.0 r.6) (e2 r.1 r.7)) (spot (e1 s.0 s.6) (e2 s.1 s.7)) (sym r.15 ∙ (ap (slice_get TB) same ∙ s.15)) in
+        let spots_same : spot (e1 r.0 r.6) (e2 r.1 r.7) ≡ spot (e1 s.0 s.6) (e2 s.1 s.7) =
+        some_same (spot (e1 r.0 r.6) (e2 r.1 r.7)) (spot (e1 s.0 s.6) (e2 s.1 s.7)) (sym r.15 ∙ (ap (slice_get TB) same ∙ s.15)) in
         let one : e1 r.0 r.6 ≡ e1 r.0 s.6 = ap (λ (s : Spot). s.one) spots_same ∙ ap (λ v. e1 v s.6) p in
         let two : e2 r.1 r.7 ≡ e2 r.1 s.7 = ap (λ (s : Spot). s.two) spots_same ∙ ap (λ v. e2 v s.7) q in
         let a1 : r.6 ≡ s.6 = red1.ends_apart r.0 r.2 r.6 s.6 r.8 s.8 r.4 r.11 r.13 s.11 (s.13 ∙ v) one in

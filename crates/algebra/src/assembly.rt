@@ -36,17 +36,21 @@ pub(crate) fn assembled(
     requires starts { reached.starts ≤ length reached.found.keys }
     requires ways { All (IsWayOf (length reached.found.keys) (length vars)) reached.ways.items }
     requires within { ArePairsWithin (graph_of left.now).states (graph_of right.now).states reached.found.keys }
-    requires idle { (p : ℕ) → IsIdlePair reached.found.keys (graph_of left.now).idle (graph_of right.now).idle p → Has reached.ways.items (idle_way p) }
+    requires idle { (p : ℕ) → IsIdlePair reached.found.keys (graph_of left.now).idle (graph_of right.now).idle p →
+        Has reached.ways.items (idle_way p) }
     requires left { IsNonDecreasingBy half_at left.now.stops.items }
     requires right { IsNonDecreasingBy half_at right.now.stops.items }
-    requires marks { (x y : HalfStop) → Has left.now.stops.items x → Has right.now.stops.items y → x.stop.marks + y.stop.marks < 2 ^ (2 * length vars) }
+    requires marks { (x y : HalfStop) → Has left.now.stops.items x → Has right.now.stops.items y →
+        x.stop.marks + y.stop.marks < 2 ^ (2 * length vars) }
     ensures names { IfOk result (λ j. j.names ≡ vars) }
     ensures made { IfOk result (λ j. IsAssembledOf left.now right.now reached.found.keys reached.starts reached.ways.items j.graph) }
     ensures fault { IfErr result (IsJoinFaultWithin (length reached.found.keys) (length reached.ways.items)
         (length (flat_map (stops_at_pair left.now.stops.items right.now.stops.items) reached.found.keys))) }
     ensures effort { effort.new ≤ effort.old }
-    ensures spent { IfErr result (IsSpentOn effort.old (length (stops_tried left.now.stops.items right.now.stops.items reached.found.keys))) }
-    ensures steps { OnOk result (effort.old ≤ effort.new + length (stops_tried left.now.stops.items right.now.stops.items reached.found.keys)) }
+    ensures spent { IfErr result (IsSpentOn effort.old
+        (length (stops_tried left.now.stops.items right.now.stops.items reached.found.keys))) }
+    ensures steps { OnOk result (effort.old ≤ effort.new + length
+        (stops_tried left.now.stops.items right.now.stops.items reached.found.keys)) }
 {
     let states = reached.found.len() as u32;
     let mut automaton = Automaton::with_ways(alloc, vars, states, reached.ways)?;
@@ -107,7 +111,8 @@ fn add_stop_of(
     requires few { length automaton.old.names ≤ MOST_VARIABLES }
     requires marks { x.now.stop.marks + y.now.stop.marks < 2 ^ (2 * length automaton.old.names) }
     ensures names { automaton.new.names ≡ automaton.old.names }
-    ensures stops { OnOk result (automaton.new.graph.stops ≡ automaton.old.graph.stops ++ map (stop_at state) (stops_with x.now (y.now ∷ []))) }
+    ensures stops { OnOk result (automaton.new.graph.stops ≡ automaton.old.graph.stops ++ map (stop_at state)
+        (stops_with x.now (y.now ∷ []))) }
     ensures same { OnOk result (HasAllButStops automaton.new.graph automaton.old.graph) }
 {
     if x.shared.number() != y.shared.number() {
@@ -132,9 +137,11 @@ fn add_stops_at(
     requires few { length automaton.old.names ≤ MOST_VARIABLES }
     requires marks { (x y : HalfStop) → Has xs.now x → Has ys.now y → x.stop.marks + y.stop.marks < 2 ^ (2 * length automaton.old.names) }
     ensures names { automaton.new.names ≡ automaton.old.names }
-    ensures stops { OnOk result (automaton.new.graph.stops ≡ automaton.old.graph.stops ++ map (stop_at state) (pairs stops_meet stop_pair ys.now xs.now)) }
+    ensures stops { OnOk result (automaton.new.graph.stops ≡ automaton.old.graph.stops ++ map (stop_at state)
+        (pairs stops_meet stop_pair ys.now xs.now)) }
     ensures same { OnOk result (HasAllButStops automaton.new.graph automaton.old.graph) }
-    ensures fault { IfErr result (IsJoinFaultWithin 0 0 (length automaton.old.graph.stops + length (pairs stops_meet stop_pair ys.now xs.now))) }
+    ensures fault { IfErr result (IsJoinFaultWithin 0 0
+        (length automaton.old.graph.stops + length (pairs stops_meet stop_pair ys.now xs.now))) }
     ensures effort { effort.new ≤ effort.old }
     ensures spent { IfErr result (IsSpentOn effort.old (length xs.now * length ys.now)) }
     ensures steps { OnOk result (effort.old ≤ effort.new + length xs.now * length ys.now) }
@@ -171,7 +178,8 @@ fn add_stops(
     ensures stops { OnOk result ((made : List StopOf) × (automaton.new.graph.stops ≡ automaton.old.graph.stops ++ made)
         × Matched (IsStopAt found.now) (flat_map (stops_at_pair xs.now ys.now) found.now) made) }
     ensures same { OnOk result (HasAllButStops automaton.new.graph automaton.old.graph) }
-    ensures fault { IfErr result (IsJoinFaultWithin 0 0 (length automaton.old.graph.stops + length (flat_map (stops_at_pair xs.now ys.now) found.now))) }
+    ensures fault { IfErr result (IsJoinFaultWithin 0 0
+        (length automaton.old.graph.stops + length (flat_map (stops_at_pair xs.now ys.now) found.now))) }
     ensures effort { effort.new ≤ effort.old }
     ensures spent { IfErr result (IsSpentOn effort.old (length (stops_tried xs.now ys.now found.now))) }
     ensures steps { OnOk result (effort.old ≤ effort.new + length (stops_tried xs.now ys.now found.now)) }
@@ -202,7 +210,8 @@ fn add_idle(
     requires ways { (p : ℕ) → IsIdlePair found.now a.now.graph.idle b.now.graph.idle p → Has automaton.old.graph.ways (idle_way p) }
     ensures names { automaton.new.names ≡ automaton.old.names }
     ensures graph { OnOk result (HasGraphOf automaton.new.graph automaton.old.graph) }
-    ensures idles { OnOk result ((p : ℕ) → Has automaton.new.graph.idle p ↔ (Has automaton.old.graph.idle p ⊎ IsIdlePair found.now a.now.graph.idle b.now.graph.idle p)) }
+    ensures idles { OnOk result ((p : ℕ) →
+        Has automaton.new.graph.idle p ↔ (Has automaton.old.graph.idle p ⊎ IsIdlePair found.now a.now.graph.idle b.now.graph.idle p)) }
 {
     for state in 0..found.len() {
         let pair = found[state];
@@ -225,7 +234,8 @@ fn add_idle_of(
     requires way { Has a.now.graph.idle pair.left → Has b.now.graph.idle pair.right → Has automaton.old.graph.ways (idle_way state) }
     ensures names { automaton.new.names ≡ automaton.old.names }
     ensures graph { OnOk result (HasGraphOf automaton.new.graph automaton.old.graph) }
-    ensures idles { OnOk result ((p : ℕ) → Has automaton.new.graph.idle p ↔ (Has automaton.old.graph.idle p ⊎ IsIdleHere state pair a.now.graph.idle b.now.graph.idle p)) }
+    ensures idles { OnOk result ((p : ℕ) →
+        Has automaton.new.graph.idle p ↔ (Has automaton.old.graph.idle p ⊎ IsIdleHere state pair a.now.graph.idle b.now.graph.idle p)) }
 {
     if !a.is_idle(pair.left) {
         return Ok(());

@@ -55,7 +55,8 @@ impl<'a> Operand<'a> {
     ) -> Result<Operand<'a>, OutOfMemory>
         requires grouped { AreGrouped automaton.now.graph.ways }
         requires few { length all.now ≤ MOST_VARIABLES }
-        ensures side { IfOk result (IsSideOf (shifts_of automaton.now.names own.now.names wanted all.now) (shifts_of automaton.now.names other.now.names true all.now) automaton.now) }
+        ensures side { IfOk result (IsSideOf (shifts_of automaton.now.names own.now.names wanted all.now)
+            (shifts_of automaton.now.names other.now.names true all.now) automaton.now) }
         ensures joinable { IfOk result IsJoinable }
     {
         let vars = automaton.vars();

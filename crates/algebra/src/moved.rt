@@ -54,7 +54,9 @@ fn add_starts(whole: &mut Automaton, part: &Automaton, by: u32) -> Result<(), Ou
     requires few { whole.old.graph.states ≤ MOST_STATES }
     ensures names { whole.new.names ≡ whole.old.names }
     ensures starts { OnOk result (whole.new.graph.starts ≡ whole.old.graph.starts ++ map (◌+◌ by) part.now.graph.starts) }
-    ensures same { OnOk result ((whole.new.graph.states ≡ whole.old.graph.states) × (whole.new.graph.ways ≡ whole.old.graph.ways) × (whole.new.graph.stops ≡ whole.old.graph.stops) × (whole.new.graph.idle ≡ whole.old.graph.idle)) }
+    ensures same { OnOk result ((whole.new.graph.states ≡ whole.old.graph.states) ×
+        (whole.new.graph.ways ≡ whole.old.graph.ways) × (whole.new.graph.stops ≡ whole.old.graph.stops) ×
+        (whole.new.graph.idle ≡ whole.old.graph.idle)) }
 {
     let starts = part.starts();
     for state in starts {
@@ -70,7 +72,9 @@ fn add_stops(whole: &mut Automaton, part: &Automaton, by: u32) -> Result<(), Out
     requires few { whole.old.graph.states ≤ MOST_STATES }
     ensures names { whole.new.names ≡ whole.old.names }
     ensures stops { OnOk result (whole.new.graph.stops ≡ whole.old.graph.stops ++ map (moved_stop by) part.now.graph.stops) }
-    ensures same { OnOk result ((whole.new.graph.states ≡ whole.old.graph.states) × (whole.new.graph.ways ≡ whole.old.graph.ways) × (whole.new.graph.starts ≡ whole.old.graph.starts) × (whole.new.graph.idle ≡ whole.old.graph.idle)) }
+    ensures same { OnOk result ((whole.new.graph.states ≡ whole.old.graph.states) ×
+        (whole.new.graph.ways ≡ whole.old.graph.ways) × (whole.new.graph.starts ≡ whole.old.graph.starts) ×
+        (whole.new.graph.idle ≡ whole.old.graph.idle)) }
 {
     let stops = part.stops();
     for stop in stops {

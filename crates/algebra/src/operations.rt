@@ -31,8 +31,10 @@ pub fn union(alloc: Global, a: &Automaton, b: &Automaton) -> Result<Automaton, S
     requires { length (all_names a.now.names b.now.names) ≤ MOST_VARIABLES }
     ensures names { IfOk result (λ u. u.names ≡ all_names a.now.names b.now.names) }
     ensures reduct { IfOk result (λ u. Reduces u.graph (union_over a.now b.now u.names)) }
-    ensures few { OnOk result ((a.now.graph.states + b.now.graph.states ≤ MOST_STATES) × (length a.now.graph.ways + length b.now.graph.ways ≤ MOST_WAYS)) }
-    ensures fault { IfErr result (λ e. IsSizeFaultOf (a.now.graph.states + b.now.graph.states) (length a.now.graph.ways + length b.now.graph.ways) e) }
+    ensures few { OnOk result ((a.now.graph.states + b.now.graph.states ≤ MOST_STATES) ×
+        (length a.now.graph.ways + length b.now.graph.ways ≤ MOST_WAYS)) }
+    ensures fault { IfErr result (λ e. IsSizeFaultOf (a.now.graph.states + b.now.graph.states)
+        (length a.now.graph.ways + length b.now.graph.ways) e) }
 {
     fit_together(a, b)?;
     unite(alloc, a.copy(alloc)?, b)
@@ -45,8 +47,10 @@ pub fn unite(alloc: Global, a: Automaton, b: &Automaton) -> Result<Automaton, Si
     requires { length (all_names a.names b.now.names) ≤ MOST_VARIABLES }
     ensures names { IfOk result (λ u. u.names ≡ all_names a.names b.now.names) }
     ensures reduct { IfOk result (λ u. Reduces u.graph (union_over a b.now u.names)) }
-    ensures few { OnOk result ((a.graph.states + b.now.graph.states ≤ MOST_STATES) × (length a.graph.ways + length b.now.graph.ways ≤ MOST_WAYS)) }
-    ensures fault { IfErr result (λ e. IsSizeFaultOf (a.graph.states + b.now.graph.states) (length a.graph.ways + length b.now.graph.ways) e) }
+    ensures few { OnOk result ((a.graph.states + b.now.graph.states ≤ MOST_STATES) ×
+        (length a.graph.ways + length b.now.graph.ways ≤ MOST_WAYS)) }
+    ensures fault { IfErr result (λ e. IsSizeFaultOf (a.graph.states + b.now.graph.states)
+        (length a.graph.ways + length b.now.graph.ways) e) }
 {
     fit_together(&a, b)?;
     let all = names_of_both(a.vars(), b.vars());

@@ -100,9 +100,11 @@ impl Rows {
     ) -> Result<(), OutOfMemory>
         requires left { IsJoinable left.now }
         requires right { IsJoinable right.now }
-        ensures rows { OnOk result (AreRowsOf (half_ways_of left.now) (half_ways_of right.now) pair self.new.left.items self.new.right.items) }
+        ensures rows { OnOk result (AreRowsOf (half_ways_of left.now) (half_ways_of right.now) pair self.new.left.items
+            self.new.right.items) }
         ensures few { OnOk result ((length self.new.left.items ≤ MOST_WAYS) × (length self.new.right.items ≤ MOST_WAYS)) }
-        ensures steps { OnOk result (length self.new.left.items * length self.new.right.items + length self.new.left.items + length self.new.right.items
+        ensures steps { OnOk result (length self.new.left.items * length self.new.right.items + length
+            self.new.left.items + length self.new.right.items
             ≤ 3 * length (tried_at half_from half_from (half_ways_of left.now) (half_ways_of right.now) pair)) }
     {
         left.automaton.is_marked();
@@ -134,7 +136,8 @@ impl Rows {
     fn steps(&self) -> u64
         requires left { length self.now.left.items ≤ MOST_WAYS }
         requires right { length self.now.right.items ≤ MOST_WAYS }
-        ensures { result ≡ length self.now.left.items * length self.now.right.items + length self.now.left.items + length self.now.right.items }
+        ensures { result ≡ length self.now.left.items * length self.now.right.items + length self.now.left.items +
+            length self.now.right.items }
     {
         let lefts = self.left.len() as u64;
         let rights = self.right.len() as u64;
@@ -196,7 +199,9 @@ impl Search {
         requires marks { HaveSmallMarks (half_ways_of left.now) (half_ways_of right.now) }
         requires few { length self.old.found.keys ≤ MOST_STATES }
         ensures apart { OnOk result (AreDistinct self.new.found.keys) }
-        ensures followed { OnOk result (IsFollowed (ways_of_all left.now right.now self.new.found.keys) self.old.found.keys self.old.ways.items self.new.found.keys self.new.ways.items) }
+        ensures followed { OnOk result
+            (IsFollowed (ways_of_all left.now right.now self.new.found.keys) self.old.found.keys self.old.ways.items
+            self.new.found.keys self.new.ways.items) }
         ensures fault { IfErr result (IsTold (IsFollowRefusal left.now right.now self.old.found.keys self.old.ways.items)) }
         ensures effort { effort.new ≤ effort.old }
         ensures spent { IfErr result (IsSpentOn effort.old (3 * (length (half_ways_of left.now) * length (half_ways_of right.now)))) }
@@ -228,9 +233,11 @@ impl Search {
         ensures only { OnOk result ((k : Pair) → Has self.new.found.keys k → Has self.old.found.keys k ⊎ (k ≡ pair)) }
         ensures last { IfOk result (λ i. (p : ℕ) → length self.old.found.keys ≤ p → p < length self.new.found.keys → i ≡ p) }
         ensures few { OnOk result (length self.new.found.keys ≤ MOST_STATES) }
-        ensures within { OnOk result ((n1 n2 : ℕ) → ArePairsWithin n1 n2 self.old.found.keys → pair.left < n1 → pair.right < n2 → ArePairsWithin n1 n2 self.new.found.keys) }
+        ensures within { OnOk result ((n1 n2 : ℕ) → ArePairsWithin n1 n2 self.old.found.keys → pair.left < n1 →
+            pair.right < n2 → ArePairsWithin n1 n2 self.new.found.keys) }
         ensures ways { self.new.ways.items ≡ self.old.ways.items }
-        ensures fault { IfErr result (λ e. (n1 n2 w : ℕ) → ArePairsWithin n1 n2 self.old.found.keys → pair.left < n1 → pair.right < n2 → IsSizeFaultWithin (n1 * n2) w e) }
+        ensures fault { IfErr result (λ e. (n1 n2 w : ℕ) → ArePairsWithin n1 n2 self.old.found.keys → pair.left < n1 →
+            pair.right < n2 → IsSizeFaultWithin (n1 * n2) w e) }
     {
         let (number, _) = self.found.insert_full(pair)?;
         let count = self.found.len();
@@ -246,7 +253,8 @@ impl Search {
     fn follow_both(&mut self, from: u32, x: &HalfWay, y: &HalfWay) -> Result<(), SizeFault>
         requires from { slice_get self.old.found.keys from ≡ Some (pair_of x.now.way.from y.now.way.from) }
         requires marks { x.now.way.marks + y.now.way.marks < 2 ^ 64 }
-        ensures followed { OnOk result (IsFollowed (ways_with x.now (y.now ∷ [])) self.old.found.keys self.old.ways.items self.new.found.keys self.new.ways.items) }
+        ensures followed { OnOk result
+            (IsFollowed (ways_with x.now (y.now ∷ [])) self.old.found.keys self.old.ways.items self.new.found.keys self.new.ways.items) }
         ensures fault { IfErr result (λ e. IsRefusalOf (ways_with x.now (y.now ∷ [])) self.old.found.keys self.old.ways.items e) }
     {
         if x.shared.number() != y.shared.number() {
@@ -273,7 +281,8 @@ impl Search {
     fn follow_way(&mut self, from: u32, x: &HalfWay, ys: &[HalfWay]) -> Result<(), SizeFault>
         requires from { (y : HalfWay) → Has ys.now y → slice_get self.old.found.keys from ≡ Some (pair_of x.now.way.from y.way.from) }
         requires marks { (y : HalfWay) → Has ys.now y → x.now.way.marks + y.way.marks < 2 ^ 64 }
-        ensures followed { OnOk result (IsFollowed (ways_with x.now ys.now) self.old.found.keys self.old.ways.items self.new.found.keys self.new.ways.items) }
+        ensures followed { OnOk result
+            (IsFollowed (ways_with x.now ys.now) self.old.found.keys self.old.ways.items self.new.found.keys self.new.ways.items) }
         ensures fault { IfErr result (λ e. IsRefusalOf (ways_with x.now ys.now) self.old.found.keys self.old.ways.items e) }
     {
         for y in ys {
@@ -284,9 +293,12 @@ impl Search {
 
     /// Makes the ways of all of these, which lead from the states of the pair of this number.
     fn follow_pair(&mut self, from: u32, xs: &[HalfWay], ys: &[HalfWay]) -> Result<(), SizeFault>
-        requires from { (x y : HalfWay) → Has xs.now x → Has ys.now y → slice_get self.old.found.keys from ≡ Some (pair_of x.way.from y.way.from) }
+        requires from { (x y : HalfWay) → Has xs.now x → Has ys.now y →
+            slice_get self.old.found.keys from ≡ Some (pair_of x.way.from y.way.from) }
         requires marks { HaveSmallMarks xs.now ys.now }
-        ensures followed { OnOk result (IsFollowed (pairs ways_meet way_pair ys.now xs.now) self.old.found.keys self.old.ways.items self.new.found.keys self.new.ways.items) }
+        ensures followed { OnOk result
+            (IsFollowed (pairs ways_meet way_pair ys.now xs.now) self.old.found.keys self.old.ways.items
+            self.new.found.keys self.new.ways.items) }
         ensures fault { IfErr result (λ e. IsRefusalOf (pairs ways_meet way_pair ys.now xs.now) self.old.found.keys self.old.ways.items e) }
     {
         for x in xs {

@@ -16,8 +16,10 @@ use std::alloc::Global;
 
 /// Refuses what is too large for a union.
 pub(crate) fn fit_together(a: &Automaton, b: &Automaton) -> Result<(), SizeFault>
-    ensures few { OnOk result ((a.now.graph.states + b.now.graph.states ≤ MOST_STATES) × (length a.now.graph.ways + length b.now.graph.ways ≤ MOST_WAYS)) }
-    ensures fault { IfErr result (λ e. IsSizeFaultOf (a.now.graph.states + b.now.graph.states) (length a.now.graph.ways + length b.now.graph.ways) e) }
+    ensures few { OnOk result ((a.now.graph.states + b.now.graph.states ≤ MOST_STATES) ×
+        (length a.now.graph.ways + length b.now.graph.ways ≤ MOST_WAYS)) }
+    ensures fault { IfErr result (λ e. IsSizeFaultOf (a.now.graph.states + b.now.graph.states)
+        (length a.now.graph.ways + length b.now.graph.ways) e) }
 {
     let states = a.states() + b.states();
     let ways = a.ways().len() + b.ways().len();

@@ -408,7 +408,8 @@ module _ (A B : Automaton) (f g : ℕ → Option ℕ) (e : ℕ → ℕ → ℕ) 
   pub look_up_no_more : (x y : LookUp) → IsLookUpShadow x y → look_up_edges A x ≤ look_up_edges B y
   look_up_no_more x y s = subst (λ a. length (edges A x.set x.ask) ≤ length (edges B y.set a)) s.asks (edges_no_more y.set x.set s.sets x.ask)
 
-  pub look_ups_cover : (BS AS : List (List ℕ)) (asks : List Question) → Covers BS AS → (x : LookUp) → Has (look_ups_asked A AS asks) x → (y : LookUp) × Has (look_ups_asked B BS asks) y × IsLookUpShadow x y
+  pub look_ups_cover : (BS AS : List (List ℕ)) (asks : List Question) → Covers BS AS → (x : LookUp) → Has (look_ups_asked A AS asks) x →
+      (y : LookUp) × Has (look_ups_asked B BS asks) y × IsLookUpShadow x y
   look_ups_cover BS AS [] cover x h = absurd h
   look_ups_cover BS AS (a ∷ later) cover x h =
       elim (Has-append_cases (map (look_up_of_set a) AS) (look_ups_asked A (next_sets A AS a) later) x h) as (λ _. (y : LookUp) × Has (look_ups_asked B BS (a ∷ later)) y × IsLookUpShadow x y) [
@@ -456,7 +457,8 @@ module _ (A B : Automaton) (f g : ℕ → Option ℕ) (e : ℕ → ℕ → ℕ) 
   pub once_sets : (xs ys : List LookUp) → ((x : LookUp) → Has xs x → (y : LookUp) × Has ys y × IsLookUpShadow x y) →
       sum_by (λ (set : List ℕ). 1 + length set) (once bytes_eq (map (λ (x : LookUp). x.set) xs)) ≤ sum_by (λ (set : List ℕ). 1 + length set) (once bytes_eq (map (λ (x : LookUp). x.set) ys))
   once_sets xs ys cover =
-      match_sum (λ SA SB. IsShadow SB SA) (λ (set : List ℕ). 1 + length set) (λ (set : List ℕ). 1 + length set) (once bytes_eq (map (λ (x : LookUp). x.set) xs)) (once bytes_eq (map (λ (x : LookUp). x.set) ys))
+      match_sum (λ SA SB. IsShadow SB SA) (λ (set : List ℕ). 1 + length set) (λ (set : List ℕ). 1 + length set)
+      (once bytes_eq (map (λ (x : LookUp). x.set) xs)) (once bytes_eq (map (λ (x : LookUp). x.set) ys))
       (once_distinct bytes_eq same_bytes bytes_itself (map (λ (x : LookUp). x.set) xs))
       (λ SA h.
       let x = Has-map_cases (λ (x : LookUp). x.set) xs SA (has_once bytes_eq same_bytes bytes_itself (map (λ (x : LookUp). x.set) xs) SA h) in
@@ -472,7 +474,8 @@ module _ (A B : Automaton) (f g : ℕ → Option ℕ) (e : ℕ → ℕ → ℕ) 
       let cover = look_ups_cover (set_of B.starts ∷ []) (set_of A.starts ∷ []) asks start_covers in
       let look_ups = once_look_ups (λ x. 1) (λ y. 1) (look_ups_read A d K) (look_ups_read B d K) cover (λ x y s. omega arith) in
       let sets = once_sets (look_ups_read A d K) (look_ups_read B d K) cover in
-      let weights = once_look_ups (λ x. 1 + look_up_edges A x) (λ y. 1 + look_up_edges B y) (look_ups_read A d K) (look_ups_read B d K) cover (λ x y s. let le = look_up_no_more x y s in omega (arith, le)) in (
+      let weights = once_look_ups (λ x. 1 + look_up_edges A x) (λ y. 1 + look_up_edges B y) (look_ups_read A d K) (look_ups_read B d K) cover
+      (λ x y s. let le = look_up_no_more x y s in omega (arith, le)) in (
         edges_sum (set_of B.starts ∷ []) (set_of A.starts ∷ []) asks (λ h. h, tt) start_covers,
         omega (arith, look_ups, length_sum (once look_up_same (look_ups_read A d K)), length_sum (once look_up_same (look_ups_read B d K))),
         omega (arith, sets, weights),

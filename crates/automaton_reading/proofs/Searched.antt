@@ -19,10 +19,12 @@ climbs (x ∷ xs) h (suc i) zero l m = absurd (omega arith)
 climbs (x ∷ xs) h (suc i) (suc j) l m = climbs xs h.1 i j (omega (arith, l)) (omega (arith, m))
 
 -- a member that is found, or that is none
-pub searched_at : (xs : List ℕ) (x : ℕ) (r : Result ℕ ℕ) → IsInOrder ◌<◌ xs → IsBinarySearchResult (λ y. nat_cmp y x) xs r → MatchResult r (λ i. (i < length xs) × (get_or xs i 0 ≡ x)) (λ _. Has xs x → ⊥)
+pub searched_at : (xs : List ℕ) (x : ℕ) (r : Result ℕ ℕ) → IsInOrder ◌<◌ xs → IsBinarySearchResult (λ y. nat_cmp y x) xs r →
+    MatchResult r (λ i. (i < length xs) × (get_or xs i 0 ≡ x)) (λ _. Has xs x → ⊥)
 searched_at xs x r up found = by r (searched xs x r found (λ i j. climbs xs up i j))
   where
-    by : (s : Result ℕ ℕ) → MatchResult s (λ i. (i < length xs) × (get_or xs i 0 ≡ x)) (λ i. (i ≤ length xs) × ((k : ℕ) → k < i → get_or xs k 0 < x) × ((k : ℕ) → i ≤ k → k < length xs → x < get_or xs k 0)) →
+    by : (s : Result ℕ ℕ) → MatchResult s (λ i. (i < length xs) × (get_or xs i 0 ≡ x)) (λ i. (i ≤ length xs) × ((k : ℕ) → k < i → get_or xs k 0 < x) ×
+        ((k : ℕ) → i ≤ k → k < length xs → x < get_or xs k 0)) →
         MatchResult s (λ i. (i < length xs) × (get_or xs i 0 ≡ x)) (λ _. Has xs x → ⊥)
     by (Ok i) h = h
     by (Err i) h = λ m.

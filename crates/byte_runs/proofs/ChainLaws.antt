@@ -155,7 +155,8 @@ fits_levels sets levels d j are small fits keep = record {
       are.each t within (get_or d (j + t) 0) (small (j + t)) ∙ keep t within (omega (arith, within));
 }
 
-pub ladder_fits : (sets : Sets) (levels : List (List Bool)) (ladder : Ladder) → AreLevelsOf sets levels → ((hay : List ℕ) (k : ℕ) → FitsLevels hay levels k → Admits ladder hay k) → IsLadderOf sets ladder
+pub ladder_fits : (sets : Sets) (levels : List (List Bool)) (ladder : Ladder) → AreLevelsOf sets levels →
+    ((hay : List ℕ) (k : ℕ) → FitsLevels hay levels k → Admits ladder hay k) → IsLadderOf sets ladder
 ladder_fits sets levels ladder are admits d j small fits keep = admits d j (fits_levels sets levels d j are small fits keep)
 
 -- levels, one by one

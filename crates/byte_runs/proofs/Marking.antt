@@ -22,7 +22,8 @@ one_on P i j end e none here k low less p = elim (cases_eq k j) [ inl same ↦ h
 -- of eight places none is marked where the or of the eight is false
 pub eight_unmarked : (marks : List Bool) (bytes : List ℕ) (i : ℕ) →
     (is_marked marks (slice_index bytes i) || is_marked marks (slice_index bytes (i + 1)) || is_marked marks (slice_index bytes (i + 2)) || is_marked marks (slice_index bytes (i + 3))
-    || is_marked marks (slice_index bytes (i + 4)) || is_marked marks (slice_index bytes (i + 5)) || is_marked marks (slice_index bytes (i + 6)) || is_marked marks (slice_index bytes (i + 7))) ≡ false →
+    || is_marked marks (slice_index bytes (i + 4)) || is_marked marks (slice_index bytes (i + 5)) || is_marked marks (slice_index bytes (i + 6)) ||
+    is_marked marks (slice_index bytes (i + 7))) ≡ false →
     Nowhere (Passes (is_marked marks) bytes) i (i + 8)
 eight_unmarked marks bytes i e =
     let a7 = neither (m0 || m 1 || m 2 || m 3 || m 4 || m 5 || m 6) (m 7) e in

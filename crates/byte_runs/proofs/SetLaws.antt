@@ -116,7 +116,8 @@ behind_head set other bytes head within fits same before r first = of_rest r (su
     there : (i : ℕ) → is_outside other (slice_index (drop head bytes) i) ≡ is_outside set (slice_index bytes (head + i))
     there i = ap (is_outside other) (get_or-drop head bytes i 0) ∙ ap not (same (slice_index bytes (head + i)) (fits (head + i)))
 
-    of_rest : (r : Option ℕ) → IsFirstByte (is_outside other) (drop head bytes) r → MatchOption r (Nowhere Outside 0 (length bytes)) (λ k. NoneBefore Outside 0 (length bytes) (head + k) × Outside (head + k))
+    of_rest : (r : Option ℕ) → IsFirstByte (is_outside other) (drop head bytes) r →
+        MatchOption r (Nowhere Outside 0 (length bytes)) (λ k. NoneBefore Outside 0 (length bytes) (head + k) × Outside (head + k))
     of_rest None nowhere =
         nowhere_in_both Outside head (length bytes) before (λ i less p. nowhere i (omega arith) (subst (λ n. i < n) (sym (length-drop head bytes)) (omega arith)) (there i ∙ p))
     of_rest (Some k) is =

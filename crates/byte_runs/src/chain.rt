@@ -287,7 +287,8 @@ fn next_stop(sets: &[ByteSet], search: &Search, bytes: &[u8], place: usize) -> u
     requires place { place ≤ length bytes.now }
     ensures later { place ≤ result }
     ensures within { result ≤ length bytes.now }
-    ensures none { (j : ℕ) → place ≤ j → j < result → j + length sets.now ≤ length bytes.now → ¬ KeepTo sets.now bytes.now j (j + length sets.now) }
+    ensures none { (j : ℕ) → place ≤ j → j < result → j + length sets.now ≤ length bytes.now →
+        ¬ KeepTo sets.now bytes.now j (j + length sets.now) }
 {
     match search {
         Search::Text(text, offset) => next_text(sets, text, *offset, bytes, place),
@@ -307,7 +308,8 @@ fn next_text(
     requires place { place ≤ length bytes.now }
     ensures later { place ≤ result }
     ensures within { result ≤ length bytes.now }
-    ensures none { (j : ℕ) → place ≤ j → j < result → j + length sets.now ≤ length bytes.now → ¬ KeepTo sets.now bytes.now j (j + length sets.now) }
+    ensures none { (j : ℕ) → place ≤ j → j < result → j + length sets.now ≤ length bytes.now →
+        ¬ KeepTo sets.now bytes.now j (j + length sets.now) }
 {
     if offset > bytes.len() - place {
         return bytes.len();
@@ -325,7 +327,8 @@ fn next_step(sets: &[ByteSet], ladder: &Ladder, bytes: &[u8], place: usize) -> u
     requires place { place ≤ length bytes.now }
     ensures later { place ≤ result }
     ensures within { result ≤ length bytes.now }
-    ensures none { (j : ℕ) → place ≤ j → j < result → j + length sets.now ≤ length bytes.now → ¬ KeepTo sets.now bytes.now j (j + length sets.now) }
+    ensures none { (j : ℕ) → place ≤ j → j < result → j + length sets.now ≤ length bytes.now →
+        ¬ KeepTo sets.now bytes.now j (j + length sets.now) }
 {
     match ladder.find(bytes, place) {
         Some(at) => at,

@@ -34,7 +34,8 @@ pub(crate) fn row_of(spans: &[Option<Span>], variables: usize, number: usize) ->
     requires some { 0 < length spans.now }
     requires few { variables ≤ MOST_VARIABLES }
     ensures len { length result ≡ variables }
-    ensures within { (n : ℕ) → All (λ span. ForSome span (λ (s : Span). s.end ≤ n)) spans.now → All (λ span. ForSome span (λ (s : Span). s.end ≤ n)) result }
+    ensures within { (n : ℕ) → All (λ span. ForSome span (λ (s : Span). s.end ≤ n)) spans.now →
+        All (λ span. ForSome span (λ (s : Span). s.end ≤ n)) result }
 {
     let mut row = Row::empty();
     let mut left = number;

@@ -132,7 +132,8 @@ pub seek_begins : (lists : Lists) (v : ℕ) (after : SpanRow) (P : Positions) (b
     → IsSeeking lists.store v after P 0 lists.first 0 [] (rows_of lists v) before before
 seek_begins lists v after P before sound words = record {
   front = [];
-  whole_is = map_same (row_under v 0 no_positions) (row_under v 0 P) (λ w. row_under_agree v 0 no_positions P w (λ bit h. absurd (none bit h))) (rows lists.store lists.first) ∙ sym (append-nil (map (row_under v 0 P) (rows lists.store lists.first)));
+  whole_is = map_same (row_under v 0 no_positions) (row_under v 0 P) (λ w. row_under_agree v 0 no_positions P w (λ bit h. absurd (none bit h)))
+      (rows lists.store lists.first) ∙ sym (append-nil (map (row_under v 0 P) (rows lists.store lists.first)));
   passed = λ r h. absurd h;
   waits = λ r h. absurd h;
   there = sound.there;
@@ -147,7 +148,8 @@ seek_begins lists v after P before sound words = record {
     none : (bit : ℕ) → Rattle.enumerator.specs.Rows.has 0 bit ≡ Rattle.std.proofs.Common.true → ⊥
     none bit h = Rattle.enumerator.proofs.Words.never_listed bit 0 h
 
-module _ (store : List NamedRow) (made : AreMade store) (v : ℕ) (after : SpanRow) (P : Positions) (m k from : ℕ) (fs : List Waiting) (whole : List SpanRow) (before now : ℕ) (r : NamedRow) (is : row_at store k ≡ Some r) where
+module _ (store : List NamedRow) (made : AreMade store) (v : ℕ) (after : SpanRow) (P : Positions) (m k from : ℕ) (fs : List Waiting)
+    (whole : List SpanRow) (before now : ℕ) (r : NamedRow) (is : row_at store k ≡ Some r) where
   abbrev own : ℕ × ℕ
   own = (r.at, r.marks)
 
@@ -227,7 +229,8 @@ module _ (store : List NamedRow) (made : AreMade store) (v : ℕ) (after : SpanR
 abbrev pub Sought : List NamedRow → ℕ → SpanRow → Positions → List Waiting → List SpanRow → ℕ → ℕ → Type 0
 Sought store v after P fs whole before now = AreStacked store v fs × IsRestAfter after whole (waiting_rows store v P fs) × (now ≤ before + length store)
 
-module _ (store : List NamedRow) (v : ℕ) (after : SpanRow) (P : Positions) (m : ℕ) (e : Entry) (from : ℕ) (fs : List Waiting) (whole : List SpanRow) (before now : ℕ) (s : IsSeeking store v after P m e from fs whole before now) where
+module _ (store : List NamedRow) (v : ℕ) (after : SpanRow) (P : Positions) (m : ℕ) (e : Entry) (from : ℕ) (fs : List Waiting) (whole : List SpanRow)
+    (before now : ℕ) (s : IsSeeking store v after P m e from fs whole before now) where
   -- all rows of the entry stand after the given one
   pub seek_stops : (x : ℕ × ℕ) → IsNextBlock after from x → ((w : Word) → Has (rows store e) w → LeadsBefore x w) → Sought store v after P (waited m e fs) whole before now
   seek_stops x next lead = (

@@ -98,7 +98,8 @@ fn settle<L: Ledger>(
     requires waits { IsWaiting lists.now.store v first }
     requires below { AreBelow lists.now.store v first.settled stack.old }
     ensures stacked { AreStacked lists.now.store v stack.new }
-    ensures row { rows_under lists.now.store v (positions_of positions.old) first ++ waiting_rows lists.now.store v (positions_of positions.old) stack.old
+    ensures row { rows_under lists.now.store v (positions_of positions.old) first ++ waiting_rows lists.now.store v
+        (positions_of positions.old) stack.old
         ≡ row_by v result (positions_of positions.new) ∷ waiting_rows lists.now.store v (positions_of positions.new) stack.new }
     ensures steps { steps.new ≤ steps.old + left v first.settled }
 {

@@ -62,7 +62,8 @@ with_front test from end less passes f ((a, b) ∷ rest) is =
     let after : AllByRecursion (λ part. from + 1 ≤ part.0) ((a, b) ∷ rest) = subst (AllByRecursion (λ part. from + 1 ≤ part.0)) (sym is) f.after in
     let start = after.0 in
     let rises = apart.0 in
-    let within : (c : ℕ) → Covers ((a, b) ∷ rest) c → (from + 1 ≤ c) × (c < end) × IsTrue (test c) = subst (λ r. (c : ℕ) → Covers r c → (from + 1 ≤ c) × (c < end) × IsTrue (test c)) (sym is) f.within in
+    let within : (c : ℕ) → Covers ((a, b) ∷ rest) c → (from + 1 ≤ c) × (c < end) × IsTrue (test c) =
+    subst (λ r. (c : ℕ) → Covers r c → (from + 1 ≤ c) × (c < end) × IsTrue (test c)) (sym is) f.within in
     let each : (c : ℕ) → from + 1 ≤ c → c < end → IsTrue (test c) → Covers ((a, b) ∷ rest) c =
     subst (λ r. (c : ℕ) → from + 1 ≤ c → c < end → IsTrue (test c) → Covers r c) (sym is) f.each in
     elim (cases_lt (from + 1) a) [

@@ -138,7 +138,8 @@ module _ (lang : Dialect) (speaks : Speaks lang) where
       let next : drop (p + 1) text ≡ t = sym (drop-drop 1 p text) ∙ ap (drop 1) stands in
       rest_told negated text from (p + 1) t caret next skip q s w (omega arith) (omega (arith, few)) h
 
-  starts : (negated : Bool) (text : List ℕ) (from : ℕ) → ReadsClass (alphabet_of lang) text from (start_of negated from) no_item → Holds lang speaks negated text from (start_of negated from) set.empty no_item
+  starts : (negated : Bool) (text : List ℕ) (from : ℕ) → ReadsClass (alphabet_of lang) text from (start_of negated from) no_item →
+      Holds lang speaks negated text from (start_of negated from) set.empty no_item
   unfolding Stands
   starts negated text from reads = record {
     items = [];

@@ -329,8 +329,17 @@ char_told : (t : List ℕ) (p : ℕ) → begins (λ b. nat_lt b 128) t ≡ false
 unfolding TellsWide
 char_told t p big None e = (refl, λ c rest is same. let d = ap (λ (x : Decoded). x.char) (ap decoded same ∙ decoded-encode c rest is) in let no = sym e ∙ d in cc)
 char_told t p big (Some c) e =
-    let h = SpellsChar-decoded t c e in
-    (c, drop (decoded t).size t, (h.scalar, at_least c (λ small. let no = sym big ∙ small_first c t (drop (decoded t).size t) small h.bytes in absurd (cc))), h.bytes, ap (λ n. (byte c, n)) (sym h.width))
+    let h = SpellsChar-decoded t c e in (
+      c,
+      drop (decoded t).size t,
+      (
+        h.scalar,
+        at_least c (λ small. let no = sym big ∙ small_first c t (drop (decoded t).size t) small h.bytes in
+            absurd (cc)),
+      ),
+      h.bytes,
+      ap (λ n. (byte c, n)) (sym h.width),
+    )
 
 wide_told : (lang : Dialect) (t : List ℕ) (p : ℕ) → begins (λ b. nat_lt b 128) t ≡ false → TellsWide (alphabet_of lang) t p (wide_in lang p t)
 unfolding TellsWide

@@ -175,7 +175,8 @@ module _ (lang : Dialect) (speaks : Speaks lang) where
       ∙ ap (λ b. if b then stops (Err (BadRange at)) else goes (suc (length e)) (with_unit (tree_in lang (elem_set x)) n)) (kind_full lang x some)
       ∙ ap (λ y. goes (suc (length e)) (with_unit y n)) (sym (set_tree_only lang speaks (elem_set x) f (kind_is_some lang x some) (escape_set_in (alphabet_of lang) e x is) tree))
   plain_step (class {t = t} {s = s} {f = f} is tree) at n =
-      ap (λ x. classes lang x n) (class_read lang speaks is at) ∙ ap (λ y. goes (suc (length t)) (with_unit y n)) (sym (set_tree_only lang speaks s f (full_of (alphabet_of lang) s is.1) (class_in is.0) tree))
+      ap (λ x. classes lang x n) (class_read lang speaks is at) ∙
+      ap (λ y. goes (suc (length t)) (with_unit y n)) (sym (set_tree_only lang speaks s f (full_of (alphabet_of lang) s is.1) (class_in is.0) tree))
 
   -- a token, and then the others
   pub ends_token : (at : ℕ) (u rest : List ℕ) (n m : Nest) (r : Answer) → step lang at (u ++ rest) n ≡ goes (length u) m →

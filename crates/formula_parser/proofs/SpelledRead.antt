@@ -251,7 +251,8 @@ module _ (lang : Dialect) (speaks : Speaks lang) where
   -- the innermost frame is closed by the byte c, and is the unit g of the one around it
   close_read : {room : ℕ} (t after : List ℕ) (f : Frame) (below : List Frame) (opener : Opener) (arms parts : List Tree) (last : Last) (c : ℕ) (g : Tree) →
       IsOpen room t (f ∷ below) opener arms parts last (c ∷ after) →
-      ((u : List ℕ) → SpellsAlt (alphabet_of lang) room u (arms ++ seq_tree (held parts last) ∷ []) (c ∷ after) → SpellsUnit (alphabet_of lang) (suc room) (opener_text opener ++ (u ++ c ∷ [])) g after) →
+      ((u : List ℕ) → SpellsAlt (alphabet_of lang) room u (arms ++ seq_tree (held parts last) ∷ []) (c ∷ after) →
+      SpellsUnit (alphabet_of lang) (suc room) (opener_text opener ++ (u ++ c ∷ [])) g after) →
       IsOpen (suc room) (t ++ c ∷ []) below f.opener f.arms f.parts (unit g) after
   close_read {room = room} t after f below opener arms parts last c g o is =
       let w = o.outside.4 in

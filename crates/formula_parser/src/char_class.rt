@@ -158,7 +158,8 @@ fn all(alloc: Global, items: CharItems, at: usize) -> Result<CharSet, FormulaFau
 
 /// The token of an element.
 fn elem_token(found: Result<(CharElem, usize), FormulaFault>) -> Result<CharToken, FormulaFault>
-    ensures { (token : ElemToken) (p : ℕ) (s : Bytes) (w : Within) → IsElemToken found token → IsTokenStep result p s w (takes_token p token s w) }
+    ensures { (token : ElemToken) (p : ℕ) (s : Bytes) (w : Within) → IsElemToken found token →
+        IsTokenStep result p s w (takes_token p token s w) }
 {
     match found {
         Ok((elem, len)) => Ok(CharToken::Elem(elem, len)),
@@ -168,7 +169,8 @@ fn elem_token(found: Result<(CharElem, usize), FormulaFault>) -> Result<CharToke
 
 /// The token that a `-` is, before the text `others`.
 fn dash_token(others: &[u8], after_elem: bool) -> CharToken
-    ensures { (p : ℕ) (s : Bytes) (w : Within) → after_elem ≡ is_after_elem w → IsTokenStep (Ok result) p s w (takes_dash p others.now s w) }
+    ensures { (p : ℕ) (s : Bytes) (w : Within) → after_elem ≡ is_after_elem w →
+        IsTokenStep (Ok result) p s w (takes_dash p others.now s w) }
 {
     if after_elem && !begins_with(others, b']') {
         CharToken::Dash

@@ -71,7 +71,8 @@ module _ (A B : Automaton) (f g : ℕ → Option ℕ) (e : ℕ → ℕ → ℕ) 
   weighs d lengths =
       let total : List (List ℕ) → ℕ = λ sets. sum_by (λ (set : List ℕ). 1 + length set) (once bytes_eq sets) in
       let sets = once_sets A B f g e r (map ending (sets_in A d)) (map ending (sets_in B d)) (met_look_ups d) in
-      let look_ups = once_look_ups A B f g e r (λ x. 1 + look_up_edges A x) (λ y. 1 + look_up_edges B y) (look_ups_in A d ++ ends_at A d lengths) (look_ups_in B d ++ ends_at B d lengths) (held_cover d lengths)
+      let look_ups = once_look_ups A B f g e r (λ x. 1 + look_up_edges A x) (λ y. 1 + look_up_edges B y) (look_ups_in A d ++ ends_at A d lengths)
+      (look_ups_in B d ++ ends_at B d lengths) (held_cover d lengths)
       (λ x y s. let le = look_up_no_more A B f g e r x y s in omega (arith, le)) in
       omega (arith, sets, look_ups, ap total (sets_again (sets_in A d)), ap total (sets_again (sets_in B d)))
 
@@ -81,7 +82,8 @@ reduct_weighs A B h d lengths = weighs A B h.0 h.1 h.2 h.3 d lengths
 -- ---- lengths
 
 -- the end look-ups at a length are the same behind any piece
-ends_later : (A : Automaton) (d piece lengths : List ℕ) → ((n : ℕ) → Has lengths n → n ≤ length d) → (look_up : LookUp) → Has (ends_at A d lengths) look_up → Has (ends_at A (d ++ piece) lengths) look_up
+ends_later : (A : Automaton) (d piece lengths : List ℕ) → ((n : ℕ) → Has lengths n → n ≤ length d) → (look_up : LookUp) →
+    Has (ends_at A d lengths) look_up → Has (ends_at A (d ++ piece) lengths) look_up
 ends_later A d piece lengths within look_up h =
     let n = flat_map_cases (λ n. end_look_ups_at A (take n d)) lengths look_up h in
     let same : take n.0 (d ++ piece) ≡ take n.0 d = take-append-le n.0 d piece (within n.0 n.1) in

@@ -93,7 +93,8 @@ impl Growing {
         ensures appended { OnOk result (IsAppended self.old piece.now self.new) }
         ensures steps { OnOk result (steps.new + credit self.new + charge self.old ≤ steps.old + credit self.old + charge self.new) }
         ensures spent { self.old.spent ≡ true → IsErrOf result Spent }
-        ensures long { self.old.spent ≡ false → 2 ^ 28 < length self.old.document + length piece.now → IsErrOf result (TooLong (length self.old.document + length piece.now)) }
+        ensures long { self.old.spent ≡ false → 2 ^ 28 < length self.old.document + length piece.now →
+            IsErrOf result (TooLong (length self.old.document + length piece.now)) }
         ensures fault { IfErr result (IsAppendFault self.old piece.now) }
         ensures left { IfErr result (λ e. self.new ≡ left_by self.old e) }
     {
@@ -132,7 +133,9 @@ impl Growing {
         ensures first { IfOk result (λ e. e.rest ≡ e.whole) }
         ensures variables { IfOk result (λ e. e.variables ≡ length self.old.automaton.names) }
         ensures asked { HasAskedRows self.old self.new }
-        ensures steps { self.old.spent ≡ false → steps.new + length (end_look_ups self.old.look_ups) * size self.old.automaton.graph ≤ steps.old + rows_steps self.old + length (end_look_ups self.new.look_ups) * size self.old.automaton.graph }
+        ensures steps { self.old.spent ≡ false →
+            steps.new + length (end_look_ups self.old.look_ups) * size self.old.automaton.graph ≤ steps.old + rows_steps
+            self.old + length (end_look_ups self.new.look_ups) * size self.old.automaton.graph }
         ensures spent { self.old.spent ≡ true → IsErrOf result Spent }
         ensures fault { IfErr result (IsRowsFault self.old) }
     {
@@ -158,12 +161,18 @@ fn append_to<L: Ledger>(
 ) -> Result<(), GrowFault>
     requires { IsHeldReading automaton.now limit document.old.items reading.old }
     ensures inside { IsHeldReading automaton.now limit document.new.items reading.new }
-    ensures appended { OnOk result (IsAppended (seen automaton.now limit document.old.items reading.old) piece.now (seen automaton.now limit document.new.items reading.new)) }
-    ensures steps { OnOk result (steps.new + credit (seen automaton.now limit document.new.items reading.new) + charge (seen automaton.now limit document.old.items reading.old) ≤ steps.old + credit (seen automaton.now limit document.old.items reading.old) + charge (seen automaton.now limit document.new.items reading.new)) }
+    ensures appended { OnOk result
+        (IsAppended (seen automaton.now limit document.old.items reading.old) piece.now
+        (seen automaton.now limit document.new.items reading.new)) }
+    ensures steps { OnOk result (steps.new + credit (seen automaton.now limit document.new.items reading.new) + charge
+        (seen automaton.now limit document.old.items reading.old) ≤ steps.old + credit
+        (seen automaton.now limit document.old.items reading.old) + charge (seen automaton.now limit document.new.items reading.new)) }
     ensures spent { (seen automaton.now limit document.old.items reading.old).spent ≡ true → IsErrOf result Spent }
-    ensures long { (seen automaton.now limit document.old.items reading.old).spent ≡ false → 2 ^ 28 < length document.old.items + length piece.now → IsErrOf result (TooLong (length document.old.items + length piece.now)) }
+    ensures long { (seen automaton.now limit document.old.items reading.old).spent ≡ false →
+        2 ^ 28 < length document.old.items + length piece.now → IsErrOf result (TooLong (length document.old.items + length piece.now)) }
     ensures fault { IfErr result (IsAppendFault (seen automaton.now limit document.old.items reading.old) piece.now) }
-    ensures left { IfErr result (λ e. seen automaton.now limit document.new.items reading.new ≡ left_by (seen automaton.now limit document.old.items reading.old) e) }
+    ensures left { IfErr result (λ e. seen automaton.now limit document.new.items reading.new ≡
+        left_by (seen automaton.now limit document.old.items reading.old) e) }
 {
     automaton.is_marked();
     if reading.is_none() {
@@ -217,8 +226,12 @@ fn rows_of<L: Ledger>(
     ensures rows { IfOk result (λ e. AreRowsRead automaton.now document.now.items e.whole) }
     ensures first { IfOk result (λ e. e.rest ≡ e.whole) }
     ensures variables { IfOk result (λ e. e.variables ≡ length automaton.now.names) }
-    ensures asked { HasAskedRows (seen automaton.now limit document.now.items reading.old) (seen automaton.now limit document.now.items reading.new) }
-    ensures steps { (seen automaton.now limit document.now.items reading.old).spent ≡ false → steps.new + length (end_look_ups (seen automaton.now limit document.now.items reading.old).look_ups) * size automaton.now.graph ≤ steps.old + rows_steps (seen automaton.now limit document.now.items reading.old) + length (end_look_ups (seen automaton.now limit document.now.items reading.new).look_ups) * size automaton.now.graph }
+    ensures asked { HasAskedRows (seen automaton.now limit document.now.items reading.old)
+        (seen automaton.now limit document.now.items reading.new) }
+    ensures steps { (seen automaton.now limit document.now.items reading.old).spent ≡ false →
+        steps.new + length (end_look_ups (seen automaton.now limit document.now.items reading.old).look_ups) * size
+        automaton.now.graph ≤ steps.old + rows_steps (seen automaton.now limit document.now.items reading.old) + length
+        (end_look_ups (seen automaton.now limit document.now.items reading.new).look_ups) * size automaton.now.graph }
     ensures spent { (seen automaton.now limit document.now.items reading.old).spent ≡ true → IsErrOf result Spent }
     ensures fault { IfErr result (IsRowsFault (seen automaton.now limit document.now.items reading.old)) }
 {

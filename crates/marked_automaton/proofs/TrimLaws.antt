@@ -81,7 +81,8 @@ module _ (B : Automaton) (whole : IsWhole B) (useful idle : List Bool) (len : le
   idle_same : (b a : ℕ) → f b ≡ Some a → get_or (kept_flags useful idle) a false ≡ get_or idle b false
   idle_same b a e = kept_flag 0 useful idle b a a len_idle e (omega arith)
 
-  pub trimmed_reduct : IsReduct (trimmed B useful idle) B (number_of (numbered 0 useful)) (kept_place (moved_way (numbered 0 useful)) B.ways) (λ b k. kept_origin (moved_stop (numbered 0 useful)) B.stops k)
+  pub trimmed_reduct : IsReduct (trimmed B useful idle) B (number_of (numbered 0 useful)) (kept_place (moved_way (numbered 0 useful)) B.ways)
+      (λ b k. kept_origin (moved_stop (numbered 0 useful)) B.stops k)
   trimmed_reduct = record {
     from_states = λ b k. omega (arith, flagged_below useful b (number_tells 0 useful b k.0 k.1).0, len);
     to_states = λ b a e. omega (arith, (number_tells 0 useful b a e).2);

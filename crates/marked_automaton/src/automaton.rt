@@ -113,7 +113,9 @@ impl Automaton {
     pub fn group_ways(&mut self, alloc: Global) -> Result<(), OutOfMemory>
         ensures names { self.new.names ≡ self.old.names }
         ensures rearranges { OnOk result (Rearranges self.new.graph self.old.graph) }
-        ensures same { OnOk result ((self.new.graph.starts ≡ self.old.graph.starts) × (self.new.graph.stops ≡ self.old.graph.stops) × (self.new.graph.idle ≡ self.old.graph.idle) × (length self.new.graph.ways ≡ length self.old.graph.ways)) }
+        ensures same { OnOk result ((self.new.graph.starts ≡ self.old.graph.starts) ×
+            (self.new.graph.stops ≡ self.old.graph.stops) × (self.new.graph.idle ≡ self.old.graph.idle) ×
+            (length self.new.graph.ways ≡ length self.old.graph.ways)) }
         ensures grouped { OnOk result (AreGrouped self.new.graph.ways) }
         ensures err { OnErr result (self.new.graph ≡ self.old.graph) }
     {

@@ -132,7 +132,8 @@ impl Search {
     /// Finds a node.
     fn find(&mut self, node: u32) -> Result<(), OutOfMemory>
         requires { node < length self.old.found.items }
-        ensures grows { OnOk result (Grows (λ p. p ≡ node) self.old.found.items self.old.waiting.items self.new.found.items self.new.waiting.items) }
+        ensures grows { OnOk result (Grows (λ p. p ≡ node) self.old.found.items self.old.waiting.items
+            self.new.found.items self.new.waiting.items) }
         ensures found { OnOk result (IsFlagged self.new.found.items node) }
     {
         if self.found[node as usize] {
@@ -146,7 +147,8 @@ impl Search {
     /// Finds these nodes.
     fn find_all(&mut self, nodes: &[u32]) -> Result<(), OutOfMemory>
         requires { (p : ℕ) → Has nodes.now p → p < length self.old.found.items }
-        ensures grows { OnOk result (Grows (Has nodes.now) self.old.found.items self.old.waiting.items self.new.found.items self.new.waiting.items) }
+        ensures grows { OnOk result (Grows (Has nodes.now) self.old.found.items self.old.waiting.items
+            self.new.found.items self.new.waiting.items) }
         ensures found { OnOk result ((p : ℕ) → Has nodes.now p → IsFlagged self.new.found.items p) }
     {
         for node in nodes {
@@ -157,9 +159,12 @@ impl Search {
 
     /// Follows each way once, in their order, from what is found by then, until all nodes are found.
     fn sweep(&mut self, ways: &[Way], direction: Direction) -> Result<(), OutOfMemory>
-        requires { (e : Edge) → Has (edges_in direction ways.now) e → (e.from < length self.old.found.items) × (e.to < length self.old.found.items) }
-        ensures grows { OnOk result (Grows (Reaches (edges_in direction ways.now) (flagged 0 self.old.found.items)) self.old.found.items self.old.waiting.items self.new.found.items self.new.waiting.items) }
-        ensures swept { OnOk result ((length self.new.found.items ≤ length self.new.waiting.items) ⊎ ((e : Edge) → Has (edges_in direction ways.now) e → IsFlagged self.old.found.items e.from → IsFlagged self.new.found.items e.to)) }
+        requires { (e : Edge) → Has (edges_in direction ways.now) e →
+            (e.from < length self.old.found.items) × (e.to < length self.old.found.items) }
+        ensures grows { OnOk result (Grows (Reaches (edges_in direction ways.now) (flagged 0 self.old.found.items))
+            self.old.found.items self.old.waiting.items self.new.found.items self.new.waiting.items) }
+        ensures swept { OnOk result ((length self.new.found.items ≤ length self.new.waiting.items) ⊎ ((e : Edge) →
+            Has (edges_in direction ways.now) e → IsFlagged self.old.found.items e.from → IsFlagged self.new.found.items e.to)) }
     {
         for way in ways {
             if self.waiting.len() >= self.found.len() {
@@ -176,10 +181,12 @@ impl Search {
     /// Follows the edges from all that waits to their targets, until nothing waits.
     fn follow_all(&mut self, targets: &[Vec<u32>]) -> Result<(), OutOfMemory>
         requires nodes { length targets.now ≡ length self.old.found.items }
-        requires within { (p : ℕ) (list : _) → slice_get targets.now p ≡ Some list → (q : ℕ) → Has list.items q → q < length self.old.found.items }
+        requires within { (p : ℕ) (list : _) → slice_get targets.now p ≡ Some list → (q : ℕ) → Has list.items q →
+            q < length self.old.found.items }
         requires waiting { (p : ℕ) → Has self.old.waiting.items p → IsFlagged self.old.found.items p }
         ensures len { OnOk result (length self.new.found.items ≡ length self.old.found.items) }
-        ensures search { OnOk result ((edges : List Edge) (seeds : List ℕ) → AreTargets edges targets.now → IsSearch edges seeds self.old.found.items self.old.waiting.items → IsSearch edges seeds self.new.found.items []) }
+        ensures search { OnOk result ((edges : List Edge) (seeds : List ℕ) → AreTargets edges targets.now →
+            IsSearch edges seeds self.old.found.items self.old.waiting.items → IsSearch edges seeds self.new.found.items []) }
     {
         while let Some(node) = self.waiting.pop() {
             self.find_all(targets[node as usize].as_slice())?;

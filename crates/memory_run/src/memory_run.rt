@@ -70,9 +70,11 @@ impl MemoryRun {
 
     /// Adds a document, unless its name has one or is `-`.
     pub fn add_document(&mut self, name: &str, bytes: &[u8]) -> Result<(), DocumentFault>
-        ensures ok { OnOk result ((n : List ℕ) → document_of self.new n ≡ (if bytes_eq name.now n then Some bytes.now else document_of self.old n)) }
+        ensures ok { OnOk result ((n : List ℕ) →
+            document_of self.new n ≡ (if bytes_eq name.now n then Some bytes.now else document_of self.old n)) }
         ensures err { OnErr result ((n : List ℕ) → document_of self.new n ≡ document_of self.old n) }
-        ensures name { IfErr result (λ fault. fault ≡ DocumentFault.Name → (name.now ≡ input_name) ⊎ (document_of self.old name.now ≢ None)) }
+        ensures name { IfErr result (λ fault. fault ≡ DocumentFault.Name →
+            (name.now ≡ input_name) ⊎ (document_of self.old name.now ≢ None)) }
         ensures words { words_of self.new ≡ words_of self.old }
     {
         if name == "-" {
@@ -113,7 +115,8 @@ impl MemoryRun {
         requires name { blank.name ≡ L.name }
         requires parts { blank.parts ≡ L.parts }
         requires some { 0 < L.parts }
-        ensures { IfOk result (λ e. Ran program (words_of self) (document_of self) input.now (written_of e.rows) (written_of e.notes) e.status) }
+        ensures { IfOk result (λ e. Ran program (words_of self) (document_of self) input.now (written_of e.rows)
+            (written_of e.notes) e.status) }
     {
         let alloc = self.alloc;
         let words = self.words;

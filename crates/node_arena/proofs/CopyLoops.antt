@@ -184,7 +184,8 @@ place_by nodes copies copy other cells (l ∷ older) at number p node put walk s
       (λ c q is. q.1 (l, inl refl, sym walk.first ∙ sym is));
 }
 
-pub placing_next : (nodes copies new : Nodes) (numbers after : Numbers) (cells : List NamedLink) (at number p k : ℕ) (node put : Node) → Placing nodes copies (copy_in numbers) cells at number → 0 < number →
+pub placing_next : (nodes copies new : Nodes) (numbers after : Numbers) (cells : List NamedLink) (at number p k : ℕ) (node put : Node) →
+    Placing nodes copies (copy_in numbers) cells at number → 0 < number →
     map.get nodes at ≡ Some node → map.get copies p ≡ None → p < MOST_CELLS → new ≡ map.insert copies p put → k ≡ p → IsPut numbers after at k →
     (next : ℕ) → IfSome (map.get nodes at) (λ n. next ≡ n.older) → (rest : ℕ) → rest ≡ number - 1 → Placing nodes new (copy_in after) cells next rest
 placing_next nodes copies new numbers after cells at number p k node put placing some e fresh small is ek noted next told rest er =
@@ -197,7 +198,8 @@ nothing_left [] c none h = h.1
 nothing_left (l ∷ left) c none h = absurd (omega arith)
 
 -- the number of no cell is not put
-pub none_put : (numbers after : Numbers) (cells : List NamedLink) (at k : ℕ) → ((c : ℕ) → HasCell cells c → c < MOST_CELLS) → HasCell cells at → IsPut numbers after at k → copy_in numbers NONE ≡ NONE →
+pub none_put : (numbers after : Numbers) (cells : List NamedLink) (at k : ℕ) → ((c : ℕ) → HasCell cells c → c < MOST_CELLS) → HasCell cells at →
+    IsPut numbers after at k → copy_in numbers NONE ≡ NONE →
     copy_in after NONE ≡ NONE
 none_put numbers after cells at k small h noted none = noted.others NONE (λ e. let s = small at h in absurd (omega arith)) ∙ none
 

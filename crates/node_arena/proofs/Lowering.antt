@@ -77,7 +77,8 @@ module _ (nodes : Nodes) (f g : ℕ → ℕ) (cells : List NamedLink) (waiting :
       let less_zero : (c : ℕ) → f c ≡ 0 → g c ≡ 0 = λ c z. let e = less c in omega arith in
       let fewer : Nodes = map.insert nodes d (record n { count = n.count - 1 }) in
       let last : Nodes = map.insert nodes d (record n { count = first_waiting waiting }) in
-      subst (λ o. IsLowered g cells (lowered_by nodes d (first_waiting waiting) o)) (sym at) (elim (cases_eq (g d) 0) as (λ _. IsLowered g cells (lowered_by nodes d (first_waiting waiting) (Some n))) [
+      subst (λ o. IsLowered g cells (lowered_by nodes d (first_waiting waiting) o)) (sym at)
+      (elim (cases_eq (g d) 0) as (λ _. IsLowered g cells (lowered_by nodes d (first_waiting waiting) (Some n))) [
         | inl z ↦
             let idle_now : IsLowered g cells (last, d) = (
               d ∷ waiting,

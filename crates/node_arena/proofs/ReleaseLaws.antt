@@ -130,7 +130,11 @@ module _ (nodes : Nodes) (newest live p : ℕ) (holds : Holds) (start cells : Li
     in_use c h ne = let r = node_there counts NONE cells c h in ap is_some (remove_other nodes p c ne ∙ (stored.nodes_are c ∙ r.1))
 
     end_by : (c : ℕ) → (c ≡ NONE) ⊎ HasCell cells c → (c ≡ p → ⊥) → IsEnd (map.remove nodes p) c
-    end_by c (inl e) ne = (λ _. remove_other nodes p c ne ∙ (stored.nodes_are c ∙ (ap (node_at counts NONE cells) e ∙ node_none counts NONE cells NONE (no_cell cells small))), λ apart. absurd (apart e))
+    end_by c (inl e) ne = (
+      λ _. remove_other nodes p c ne ∙
+          (stored.nodes_are c ∙ (ap (node_at counts NONE cells) e ∙ node_none counts NONE cells NONE (no_cell cells small))),
+      λ apart. absurd (apart e),
+    )
     end_by c (inr h) ne = (λ e. absurd (no_cell cells small (subst (λ x. HasCell cells x) e h)), λ _. in_use c h ne)
 
     p_small : p ≡ NONE → ⊥
@@ -281,7 +285,8 @@ module _ (nodes : Nodes) (newest live pending : ℕ) (holds : Holds) (start : Li
         pub free_done : (n3 : Nodes) (newest' live' last : ℕ) → newest' ≡ (if nat_eq n.newer NONE then n.older else newest) → live' + 1 ≡ live →
             n3 ≡ (lowered n2 n.also next).0 → last ≡ (lowered n2 n.also next).1 → Releasing n3 newest' live' last holds start
         free_done n3 newest' live' last ew el e3 e4 =
-            let f = freed nodes newest live pending holds start r.cells waits stored r.first r.number r.linked r.small r.held_there r.run n at n2 next (lowered_once n1 n2 k next e1 ek e2 en) newest' live' ew el in
+            let f = freed nodes newest live pending holds start r.cells waits stored r.first r.number r.linked r.small r.held_there r.run n at n2 next
+            (lowered_once n1 n2 k next e1 ek e2 en) newest' live' ew el in
             subst (λ (m : Nodes). Releasing m newest' live' last holds start) (sym e3) (subst (λ x. Releasing (lowered n2 n.also next).0 newest' live' x holds start) (sym e4) f)
 
   -- none is left that is neither held nor named

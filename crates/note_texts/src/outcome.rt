@@ -23,7 +23,8 @@ pub struct Outcome {
 impl Outcome {
     /// A status with this note, or that memory is wanting for its line.
     pub fn with(alloc: Global, status: Status, note: &Note<'_>) -> Outcome
-        ensures { Is result.status (note_bytes result.note) status (note_text note.now) ⊎ IsOutOfMemory result.status (note_bytes result.note) }
+        ensures { Is result.status (note_bytes result.note) status (note_text note.now) ⊎ IsOutOfMemory result.status
+            (note_bytes result.note) }
     {
         match NoteLine::of_note(alloc, note) {
             Ok(note) => Outcome { status, note },
@@ -52,7 +53,8 @@ impl Outcome {
 
     /// A query's text has this fault, or memory is wanting.
     pub fn of_query(alloc: Global, fault: &QueryFault) -> Outcome
-        ensures { ((¬ (fault.now ≡ QueryFault.OutOfMemory)) × Is result.status (note_bytes result.note) Status.Query (fault_note fault.now)) ⊎ IsOutOfMemory result.status (note_bytes result.note) }
+        ensures { ((¬ (fault.now ≡ QueryFault.OutOfMemory)) × Is result.status (note_bytes result.note) Status.Query
+            (fault_note fault.now)) ⊎ IsOutOfMemory result.status (note_bytes result.note) }
     {
         match query_refusal(fault) {
             Some(note) => Outcome::with(alloc, Status::Query, &note),
@@ -62,7 +64,8 @@ impl Outcome {
 
     /// An automaton of a query is too large, or memory is wanting.
     pub fn of_size(alloc: Global, fault: &SizeFault) -> Outcome
-        ensures { ((¬ (fault.now ≡ SizeFault.OutOfMemory)) × Is result.status (note_bytes result.note) Status.Size (size_note fault.now)) ⊎ IsOutOfMemory result.status (note_bytes result.note) }
+        ensures { ((¬ (fault.now ≡ SizeFault.OutOfMemory)) × Is result.status (note_bytes result.note) Status.Size
+            (size_note fault.now)) ⊎ IsOutOfMemory result.status (note_bytes result.note) }
     {
         match size_refusal(fault) {
             Some(note) => Outcome::with(alloc, Status::Size, &note),

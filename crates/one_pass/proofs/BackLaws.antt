@@ -27,7 +27,8 @@ after_cases A (p ∷ ps) sets set h =
     let e = next_cases A sets p.ask later.0 later.1 in
     (e.0, e.1, mark_block p.at e.2.marks ++ later.2, (e.2, e.3, later.2, refl, subst (λ s. Leads A ps s later.2 set) (sym e.4) later.3))
 
-pub has_after : (A : Automaton) (ps : List ReadingPlace) (sets : List (List ℕ)) (from : List ℕ) → Has sets from → (w : Word) (set : List ℕ) → Leads A ps from w set → Has (sets_after A sets (asks ps)) set
+pub has_after : (A : Automaton) (ps : List ReadingPlace) (sets : List (List ℕ)) (from : List ℕ) → Has sets from → (w : Word) (set : List ℕ) →
+    Leads A ps from w set → Has (sets_after A sets (asks ps)) set
 has_after A [] sets from h w set l = subst (Has sets) l.1 h
 has_after A (p ∷ ps) sets from h w set l = has_after A ps (next_sets A sets p.ask) l.0.to (has_next A sets p.ask from l.0 h l.1) l.2 set l.4
 

@@ -227,7 +227,16 @@ on_met A sets ended set k = absurd k
 
 -- what was given up at one place
 pub stopped_at : (A : Automaton) (p : ReadingPlace) (P : Progress) (S : Stop) → HasStoppedAt A p P S → HasStopped A (p ∷ []) P S
-stopped_at A p P S s = record { table = grown_more P.table S.table (sets_on A (sets_of P) p.ask) (sets_met A (sets_of P) (p.ask ∷ [])) (look_ups_asked A (sets_of P) (p.ask ∷ [])) (look_ups_asked A (sets_of P) (p.ask ∷ [])) s.table (on_met A (sets_of P) p.ask) (λ look_up h. h); sound = s.sound; made = s.made; distinct = s.distinct; few = s.few; look_ups = s.look_ups; steps = omega (arith, s.steps) }
+stopped_at A p P S s = record {
+  table = grown_more P.table S.table (sets_on A (sets_of P) p.ask) (sets_met A (sets_of P) (p.ask ∷ []))
+      (look_ups_asked A (sets_of P) (p.ask ∷ [])) (look_ups_asked A (sets_of P) (p.ask ∷ [])) s.table (on_met A (sets_of P) p.ask) (λ look_up h. h);
+  sound = s.sound;
+  made = s.made;
+  distinct = s.distinct;
+  few = s.few;
+  look_ups = s.look_ups;
+  steps = omega (arith, s.steps);
+}
 
 -- ---- what was given up before more places
 

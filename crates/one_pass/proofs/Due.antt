@@ -25,7 +25,8 @@ pub split_cases : (ps qs before : List ReadingPlace) (p : ReadingPlace) (after :
 split_cases [] qs before p after e = inr (before, refl, e)
 split_cases (x ∷ ps) qs [] p after e = inl (ps, ap (λ y. y ∷ ps) (head_is e), sym (tail_is e))
 split_cases (x ∷ ps) qs (y ∷ before) p after e =
-    elim (split_cases ps qs before p after (tail_is e)) as (λ _. ((mid : List ReadingPlace) × (y ∷ before ++ p ∷ mid ≡ x ∷ ps) × (mid ++ qs ≡ after)) ⊎ ((mid : List ReadingPlace) × (x ∷ ps ++ mid ≡ y ∷ before) × (mid ++ p ∷ after ≡ qs))) [
+    elim (split_cases ps qs before p after (tail_is e)) as (λ _. ((mid : List ReadingPlace) × (y ∷ before ++ p ∷ mid ≡ x ∷ ps) × (mid ++ qs ≡ after))
+    ⊎ ((mid : List ReadingPlace) × (x ∷ ps ++ mid ≡ y ∷ before) × (mid ++ p ∷ after ≡ qs))) [
       | inl h ↦ inl (h.0, ap (λ z. z ∷ before ++ p ∷ h.0) (head_is e) ∙ ap (λ zs. x ∷ zs) h.1, h.2)
       | inr h ↦ inr (h.0, ap (λ z. z ∷ ps ++ h.0) (sym (head_is e)) ∙ ap (λ zs. y ∷ zs) h.1, h.2)
     ]

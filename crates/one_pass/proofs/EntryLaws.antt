@@ -38,15 +38,18 @@ with_one s k q =
     or_false false = refl
 
 -- what is noted of it
-is_noted : (old new : List (bytes.FinSet nat_cmp)) (set byte : ℕ) (s : bytes.FinSet nat_cmp) → set < length old → s ≡ get_or old set s → new ≡ put old set (bytes.union s (bytes.insert bytes.empty byte)) →
+is_noted : (old new : List (bytes.FinSet nat_cmp)) (set byte : ℕ) (s : bytes.FinSet nat_cmp) → set < length old → s ≡ get_or old set s →
+    new ≡ put old set (bytes.union s (bytes.insert bytes.empty byte)) →
     (k b : ℕ) → IsTrue (bytes.contains (get_or new k bytes.empty) b) ↔ (IsTrue (bytes.contains (get_or old k bytes.empty) b) ⊎ ((k ≡ set) × (byte ≡ b)))
 is_noted old new set byte s within read is k b = go (same_or_not k set)
   where
     go : (k ≡ set) ⊎ (k ≡ set → ⊥) → IsTrue (bytes.contains (get_or new k bytes.empty) b) ↔ (IsTrue (bytes.contains (get_or old k bytes.empty) b) ⊎ ((k ≡ set) × (byte ≡ b)))
     go (inl e) =
-        let here : get_or new k bytes.empty ≡ bytes.union s (bytes.insert bytes.empty byte) = ap (λ v. get_or new v bytes.empty) e ∙ (ap (λ v. get_or v set bytes.empty) is ∙ get_or-set_same old set (bytes.union s (bytes.insert bytes.empty byte)) bytes.empty within) in
+        let here : get_or new k bytes.empty ≡ bytes.union s (bytes.insert bytes.empty byte) = ap (λ v. get_or new v bytes.empty) e ∙
+        (ap (λ v. get_or v set bytes.empty) is ∙ get_or-set_same old set (bytes.union s (bytes.insert bytes.empty byte)) bytes.empty within) in
         let before : s ≡ get_or old k bytes.empty = get_or_read old set s within read bytes.empty ∙ ap (λ v. get_or old v bytes.empty) (sym e) in
-        let told : bytes.contains (get_or new k bytes.empty) b ≡ (bytes.contains (get_or old k bytes.empty) b || nat_eq b byte) = ap (λ v. bytes.contains v b) here ∙ (with_one s byte b ∙ ap (λ v. bytes.contains v b || nat_eq b byte) before) in (
+        let told : bytes.contains (get_or new k bytes.empty) b ≡ (bytes.contains (get_or old k bytes.empty) b || nat_eq b byte) =
+        ap (λ v. bytes.contains v b) here ∙ (with_one s byte b ∙ ap (λ v. bytes.contains v b || nat_eq b byte) before) in (
           (λ t. split (bytes.contains (get_or old k bytes.empty) b) refl (sym told ∙ t)),
           (λ h. told ∙ elim h as (λ _. (bytes.contains (get_or old k bytes.empty) b || nat_eq b byte) ≡ true) [
             | inl f ↦ or_left (bytes.contains (get_or old k bytes.empty) b) (nat_eq b byte) f
@@ -58,7 +61,8 @@ is_noted old new set byte s within read is k b = go (same_or_not k set)
         split true f t = inl f
         split false f t = inr (e, sym (eqb-true b byte t))
     go (inr other) =
-        let same : get_or new k bytes.empty ≡ get_or old k bytes.empty = ap (λ v. get_or v k bytes.empty) is ∙ get_or-set_other old set k (bytes.union s (bytes.insert bytes.empty byte)) bytes.empty other in (
+        let same : get_or new k bytes.empty ≡ get_or old k bytes.empty = ap (λ v. get_or v k bytes.empty) is ∙
+        get_or-set_other old set k (bytes.union s (bytes.insert bytes.empty byte)) bytes.empty other in (
           (λ t. inl (sym (ap (λ v. bytes.contains v b) same) ∙ t)),
           (λ h. elim h as (λ _. bytes.contains (get_or new k bytes.empty) b ≡ true) [ inl f ↦ ap (λ v. bytes.contains v b) same ∙ f | inr f ↦ absurd (other f.0) ]),
         )
@@ -85,7 +89,8 @@ more_empty zero j s is = refl
 more_empty (suc n) zero s is = is
 more_empty (suc n) (suc j) s is = more_empty n j s is
 
-pub same_sets : (asked new : Sets) (wanted n : ℕ) (ok : Bool) (s : bytes.FinSet nat_cmp) → new ≡ (if ok then take wanted asked ++ replicate (wanted - n) s else asked) → s ≡ bytes.empty → length asked ≤ wanted →
+pub same_sets : (asked new : Sets) (wanted n : ℕ) (ok : Bool) (s : bytes.FinSet nat_cmp) →
+    new ≡ (if ok then take wanted asked ++ replicate (wanted - n) s else asked) → s ≡ bytes.empty → length asked ≤ wanted →
     (k : ℕ) → get_or new k bytes.empty ≡ get_or asked k bytes.empty
 same_sets asked new wanted n false s is none more k = ap (λ (xs : Sets). get_or xs k bytes.empty) is
 same_sets asked new wanted n true s is none more k =
@@ -96,7 +101,8 @@ same_sets asked new wanted n true s is none more k =
     ]
 
 -- there are as many as before, or as wanted
-pub rows_room : (count rows total wide wanted n later : ℕ) (ok : Bool) → later ≡ (if ok then wanted else n) → n ≡ rows → count * rows ≤ total → total ≤ wide → count * wanted ≤ wide → count * later ≤ wide
+pub rows_room : (count rows total wide wanted n later : ℕ) (ok : Bool) → later ≡ (if ok then wanted else n) → n ≡ rows → count * rows ≤ total →
+    total ≤ wide → count * wanted ≤ wide → count * later ≤ wide
 rows_room count rows total wide wanted n later false is same room more enough = let e = ap (λ k. count * k) (is ∙ same) in omega (arith, e, room, more)
 rows_room count rows total wide wanted n later true is same room more enough = let e = ap (λ k. count * k) is in omega (arith, e, enough)
 
@@ -110,22 +116,26 @@ module _ (asked new : Sets) (numbers wide : List Entry) (count : ℕ) (classes :
   same_place : (k b : ℕ) → b < 256 → has_entry asked k b ≡ true → entry_in wide (entry_place count classes k b) ≡ entry_in numbers (entry_place count classes k b)
   same_place k b less has = kept (entry_place count classes k b) (place_within count (slice_index classes b) k (length asked) (length numbers) (small b less) (within_asked asked k b has) room)
 
-  pub room_entry : (k b : ℕ) → b < 256 → (if has_entry new k b then entry_in wide (entry_place count classes k b) else Unknown) ≡ (if has_entry asked k b then entry_in numbers (entry_place count classes k b) else Unknown)
+  pub room_entry : (k b : ℕ) → b < 256 → (if has_entry new k b then entry_in wide (entry_place count classes k b) else Unknown) ≡
+      (if has_entry asked k b then entry_in numbers (entry_place count classes k b) else Unknown)
   room_entry k b less = ap (λ v. if v then entry_in wide (entry_place count classes k b) else Unknown) (same_asked k b) ∙ by (has_entry asked k b) refl
     where
       by : (v : Bool) → has_entry asked k b ≡ v → (if v then entry_in wide (entry_place count classes k b) else Unknown) ≡ (if v then entry_in numbers (entry_place count classes k b) else Unknown)
       by false is = refl
       by true is = same_place k b less is
 
-  pub room_some : ((k b : ℕ) → b < 256 → IsTrue (has_entry asked k b) → IsEntered (entry_in numbers (entry_place count classes k b))) → (k b : ℕ) → b < 256 → IsTrue (has_entry new k b) → IsEntered (entry_in wide (entry_place count classes k b))
+  pub room_some : ((k b : ℕ) → b < 256 → IsTrue (has_entry asked k b) → IsEntered (entry_in numbers (entry_place count classes k b))) → (k b : ℕ) →
+      b < 256 → IsTrue (has_entry new k b) → IsEntered (entry_in wide (entry_place count classes k b))
   room_some old k b less has =
       let was = sym (same_asked k b) ∙ has in
       subst IsEntered (sym (same_place k b less was)) (old k b less was)
 
 -- ---- one entry more
 
-module _ (asked new : Sets) (numbers : List Entry) (place : ℕ → ℕ → ℕ) (layer byte : ℕ) (e : Entry) (noted : (k b : ℕ) → IsTrue (has_entry new k b) ↔ (IsTrue (has_entry asked k b) ⊎ ((k ≡ layer) × (byte ≡ b)))) (within : place layer byte < length numbers)
-    (some : IsEntered e) (had : (entry_in numbers (place layer byte) ≡ Unknown) ⊎ (entry_in numbers (place layer byte) ≡ e)) (old : (k b : ℕ) → b < 256 → IsTrue (has_entry asked k b) → IsEntered (entry_in numbers (place k b))) where
+module _ (asked new : Sets) (numbers : List Entry) (place : ℕ → ℕ → ℕ) (layer byte : ℕ) (e : Entry) (noted : (k b : ℕ) →
+    IsTrue (has_entry new k b) ↔ (IsTrue (has_entry asked k b) ⊎ ((k ≡ layer) × (byte ≡ b)))) (within : place layer byte < length numbers)
+    (some : IsEntered e) (had : (entry_in numbers (place layer byte) ≡ Unknown) ⊎ (entry_in numbers (place layer byte) ≡ e)) (old : (k b : ℕ) →
+    b < 256 → IsTrue (has_entry asked k b) → IsEntered (entry_in numbers (place k b))) where
   abbrev After : List Entry
   After = put numbers (place layer byte) e
 
@@ -173,8 +183,10 @@ module _ (asked new : Sets) (numbers : List Entry) (place : ℕ → ℕ → ℕ)
           ]
 
 -- as the code enters it
-module _ (asked : Sets) (numbers : List Entry) (count : ℕ) (classes : List ℕ) (layer byte : ℕ) (e : Entry) (place : ℕ) (had : Entry) (was one with_one : bytes.FinSet nat_cmp) (in_asked : layer < length asked) (at : place ≡ entry_place count classes layer byte)
-    (in_numbers : place < length numbers) (read : had ≡ get_or numbers place had) (free : (had ≡ Unknown) ⊎ (had ≡ e)) (some : IsEntered e) (read_set : was ≡ get_or asked layer was) (single : one ≡ bytes.insert bytes.empty byte)
+module _ (asked : Sets) (numbers : List Entry) (count : ℕ) (classes : List ℕ) (layer byte : ℕ) (e : Entry) (place : ℕ) (had : Entry)
+    (was one with_one : bytes.FinSet nat_cmp) (in_asked : layer < length asked) (at : place ≡ entry_place count classes layer byte)
+    (in_numbers : place < length numbers) (read : had ≡ get_or numbers place had) (free : (had ≡ Unknown) ⊎ (had ≡ e)) (some : IsEntered e)
+    (read_set : was ≡ get_or asked layer was) (single : one ≡ bytes.insert bytes.empty byte)
     (joined : with_one ≡ bytes.union was one) (old : (k b : ℕ) → b < 256 → IsTrue (has_entry asked k b) → IsEntered (entry_in numbers (entry_place count classes k b))) where
   noted : (k b : ℕ) → IsTrue (has_entry (put asked layer with_one) k b) ↔ (IsTrue (has_entry asked k b) ⊎ ((k ≡ layer) × (byte ≡ b)))
   noted = is_noted asked (put asked layer with_one) layer byte was in_asked read_set (ap (put asked layer) (joined ∙ ap (bytes.union was) single))
@@ -182,7 +194,8 @@ module _ (asked : Sets) (numbers : List Entry) (count : ℕ) (classes : List ℕ
   free_there : (entry_in numbers (entry_place count classes layer byte) ≡ Unknown) ⊎ (entry_in numbers (entry_place count classes layer byte) ≡ e)
   free_there =
       let is : entry_in numbers (entry_place count classes layer byte) ≡ had = ap (entry_in numbers) (sym at) ∙ sym (get_or_read numbers place had in_numbers read Unknown) in
-      elim free as (λ _. (entry_in numbers (entry_place count classes layer byte) ≡ Unknown) ⊎ (entry_in numbers (entry_place count classes layer byte) ≡ e)) [ inl none ↦ inl (is ∙ none) | inr same ↦ inr (is ∙ same) ]
+      elim free as (λ _. (entry_in numbers (entry_place count classes layer byte) ≡ Unknown) ⊎
+      (entry_in numbers (entry_place count classes layer byte) ≡ e)) [ inl none ↦ inl (is ∙ none) | inr same ↦ inr (is ∙ same) ]
 
   within : entry_place count classes layer byte < length numbers
   within = subst (λ n. n < length numbers) at in_numbers
@@ -193,9 +206,11 @@ module _ (asked : Sets) (numbers : List Entry) (count : ℕ) (classes : List ℕ
       (more_some asked (put asked layer with_one) numbers (entry_place count classes) layer byte e noted within some free_there old k b less has)
 
   pub entered : (k b : ℕ) → b < 256 →
-      ((if has_entry (put asked layer with_one) k b then entry_in (put numbers place e) (entry_place count classes k b) else Unknown) ≡ (if has_entry asked k b then entry_in numbers (entry_place count classes k b) else Unknown)) ⊎ ((k ≡ layer) × (b ≡ byte) ×
+      ((if has_entry (put asked layer with_one) k b then entry_in (put numbers place e) (entry_place count classes k b) else Unknown) ≡
+      (if has_entry asked k b then entry_in numbers (entry_place count classes k b) else Unknown)) ⊎ ((k ≡ layer) × (b ≡ byte) ×
       ((if has_entry (put asked layer with_one) k b then entry_in (put numbers place e) (entry_place count classes k b) else Unknown) ≡ e))
   entered k b less =
-      subst (λ n. ((if has_entry (put asked layer with_one) k b then entry_in (put numbers n e) (entry_place count classes k b) else Unknown) ≡ (if has_entry asked k b then entry_in numbers (entry_place count classes k b) else Unknown)) ⊎ ((k ≡ layer) × (b ≡ byte) ×
+      subst (λ n. ((if has_entry (put asked layer with_one) k b then entry_in (put numbers n e) (entry_place count classes k b) else Unknown) ≡
+      (if has_entry asked k b then entry_in numbers (entry_place count classes k b) else Unknown)) ⊎ ((k ≡ layer) × (b ≡ byte) ×
       ((if has_entry (put asked layer with_one) k b then entry_in (put numbers n e) (entry_place count classes k b) else Unknown) ≡ e))) (sym at)
       (more_entered asked (put asked layer with_one) numbers (entry_place count classes) layer byte e noted within some free_there old k b less)

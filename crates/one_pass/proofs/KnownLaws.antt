@@ -60,7 +60,8 @@ module _ (t u : Tabled) (more : List (List ℕ)) (graph : u.graph ≡ t.graph) (
     asked = asked_grown b s r.given r.asked;
     by = r.by;
     are = r.are;
-    edges = subst (λ (set : List ℕ). HasEdges u (let q : LookUp = record { set = set; ask = byte_read b } in q) r.by) (sym (named_grown s r.given)) (has_grown (look_up t s (byte_read b)) r.by r.edges);
+    edges = subst (λ (set : List ℕ). HasEdges u (let q : LookUp = record { set = set; ask = byte_read b } in q) r.by) (sym (named_grown s r.given))
+        (has_grown (look_up t s (byte_read b)) r.by r.edges);
   }
 
   look_ups_grown : (b : ℕ) (sets : List ℕ) (groups : List Edges) → AreLookUps t b sets groups → AreLookUps u b sets groups
@@ -80,12 +81,14 @@ module _ (t u : Tabled) (more : List (List ℕ)) (graph : u.graph ≡ t.graph) (
     each = λ l b small. entry_grown layers steps b (layer_at layers l) (entry_at entries l b) (k.each l b small);
   }
 
-pub known_read : (t u : Tabled) (sets : List (List ℕ)) (look_ups : List _) (layers : List (List ℕ)) (entries : Entries) (steps : List KnownStep) → HasGrown t u sets look_ups → IsKnown t layers entries steps → IsKnown u layers entries steps
+pub known_read : (t u : Tabled) (sets : List (List ℕ)) (look_ups : List _) (layers : List (List ℕ)) (entries : Entries) (steps : List KnownStep) →
+    HasGrown t u sets look_ups → IsKnown t layers entries steps → IsKnown u layers entries steps
 known_read t u sets look_ups layers entries steps g k = known_grown t u g.kept.0 g.graph g.kept.1 g.stay layers entries steps k
 
 -- ---- nothing is known
 
-pub known_none : (t : Tabled) (layers : List (List ℕ)) (entries : Entries) (steps : List KnownStep) → length entries.asked.items ≡ 0 → ((k b : ℕ) → entry_at entries k b ≡ Unknown) → IsKnown t layers entries steps
+pub known_none : (t : Tabled) (layers : List (List ℕ)) (entries : Entries) (steps : List KnownStep) → length entries.asked.items ≡ 0 →
+    ((k b : ℕ) → entry_at entries k b ≡ Unknown) → IsKnown t layers entries steps
 known_none t layers entries steps none each = record { few = omega arith; each = λ k b small. subst (IsEntry t layers steps b (layer_at layers k)) (sym (each k b)) tt }
 
 -- ---- one layer more
@@ -129,7 +132,8 @@ known_layer t layers entries steps s known = record {
     | inl none ↦ subst (IsEntry t (with_set layers s) steps b (layer_at (with_set layers s) k)) (sym none) tt
     | inr row ↦
         let within : k < length layers = omega (arith, row, known.few) in
-        subst (λ (sets : List ℕ). IsEntry t (with_set layers s) steps b sets (entry_at entries k b)) (sym (with_layer layers s k within)) (still_true b (layer_at layers k) (entry_at entries k b) (known.each k b small))
+        subst (λ (sets : List ℕ). IsEntry t (with_set layers s) steps b sets (entry_at entries k b)) (sym (with_layer layers s k within))
+        (still_true b (layer_at layers k) (entry_at entries k b) (known.each k b small))
   ];
 }
   where
@@ -140,7 +144,8 @@ known_layer t layers entries steps s known = record {
 
 -- ---- room for more layers
 
-pub known_room : (t : Tabled) (layers : List (List ℕ)) (old new : Entries) (steps : List KnownStep) → ((k b : ℕ) → b < 256 → entry_at new k b ≡ entry_at old k b) → length new.asked.items ≤ length layers → IsKnown t layers old steps →
+pub known_room : (t : Tabled) (layers : List (List ℕ)) (old new : Entries) (steps : List KnownStep) →
+    ((k b : ℕ) → b < 256 → entry_at new k b ≡ entry_at old k b) → length new.asked.items ≤ length layers → IsKnown t layers old steps →
     IsKnown t layers new steps
 known_room t layers old new steps same few known = record {
   few = few;
@@ -169,7 +174,8 @@ entry_last t layers steps step b sets place is look_ups next =
 -- ---- one entry more
 
 pub known_entry : (t : Tabled) (layers : List (List ℕ)) (old new : Entries) (steps : List KnownStep) (layer byte : ℕ) (e : Entry) →
-    ((k b : ℕ) → b < 256 → (entry_at new k b ≡ entry_at old k b) ⊎ ((k ≡ layer) × (b ≡ byte) × (entry_at new k b ≡ e))) → length new.asked.items ≡ length old.asked.items → IsEntry t layers steps byte (layer_at layers layer) e →
+    ((k b : ℕ) → b < 256 → (entry_at new k b ≡ entry_at old k b) ⊎ ((k ≡ layer) × (b ≡ byte) × (entry_at new k b ≡ e))) →
+    length new.asked.items ≡ length old.asked.items → IsEntry t layers steps byte (layer_at layers layer) e →
     IsKnown t layers old steps → IsKnown t layers new steps
 known_entry t layers old new steps layer byte e entered rows entry known = record {
   few = omega (arith, known.few, rows);
@@ -199,9 +205,11 @@ look_ups_alike t b other (s ∷ sets) (g ∷ groups) alike all =
       look_ups_alike t b other sets groups (λ n h. alike n (inr h)) all.1,
     )
 
-pub entry_alike : (t : Tabled) (layers : List (List ℕ)) (steps : List KnownStep) (b other : ℕ) (sets : List ℕ) (e : Entry) → AreAlike t b other sets → IsEntry t layers steps other sets e → IsEntry t layers steps b sets e
+pub entry_alike : (t : Tabled) (layers : List (List ℕ)) (steps : List KnownStep) (b other : ℕ) (sets : List ℕ) (e : Entry) → AreAlike t b other sets →
+    IsEntry t layers steps other sets e → IsEntry t layers steps b sets e
 entry_alike t layers steps b other sets Unknown alike is = tt
-entry_alike t layers steps b other sets (Glide next) alike is = record { to = is.to; there = is.there; look_ups = look_ups_alike t b other sets (handing is.to) alike is.look_ups; distinct = is.distinct }
+entry_alike t layers steps b other sets (Glide next) alike is =
+    record { to = is.to; there = is.there; look_ups = look_ups_alike t b other sets (handing is.to) alike is.look_ups; distinct = is.distinct }
 entry_alike t layers steps b other sets (Run p) alike (step, at, of) = (step, at, record { look_ups = look_ups_alike t b other sets step.program.groups alike of.look_ups; next = of.next })
 
 -- what `==` says of two edges
@@ -213,7 +221,8 @@ same_edge a b = (
 )
 
 -- a set whose edges on two bytes are equal
-pub alike_is : (t : Tabled) (set b other s : ℕ) (es fs : List Edge) → (set < length t.sets) × HasEdges t (look_up t set (byte_read b)) es → Has t.look_ups (look_up t set (byte_read b)) → HasEdges t (look_up t set (byte_read other)) fs →
+pub alike_is : (t : Tabled) (set b other s : ℕ) (es fs : List Edge) → (set < length t.sets) × HasEdges t (look_up t set (byte_read b)) es →
+    Has t.look_ups (look_up t set (byte_read b)) → HasEdges t (look_up t set (byte_read other)) fs →
     es ≡ fs → (set ≡ s) ⊎ ⊥ → IsAlike t b other s
 alike_is t set b other s es fs has there others same (inr none) = absurd none
 alike_is t set b other s es fs has there others same (inl is) =
@@ -221,12 +230,14 @@ alike_is t set b other s es fs has there others same (inl is) =
     (record { given = has.0; asked = there; same = sym has.1.named ∙ (ap (map (edge_named t.sets)) same ∙ others.named) })
 
 -- sets that are alike, one after another
-pub alike_more : (t : Tabled) (b other : ℕ) (sets : List ℕ) (k x : ℕ) → k < length sets → x ≡ get_or sets k 0 → AreAlike t b other (take k sets) → AreAlike t b other (x ∷ []) → AreAlike t b other (take (k + 1) sets)
+pub alike_more : (t : Tabled) (b other : ℕ) (sets : List ℕ) (k x : ℕ) → k < length sets → x ≡ get_or sets k 0 → AreAlike t b other (take k sets) →
+    AreAlike t b other (x ∷ []) → AreAlike t b other (take (k + 1) sets)
 alike_more t b other sets k x within is all one s h = elim (Has-take_more_cases sets k 0 s within h) as (λ _. IsAlike t b other s) [ inl old ↦ all s old | inr same ↦ one s (inl (is ∙ same)) ]
 
 -- ---- the look-ups of a layer, one after another
 
-pub look_ups_more : (t : Tabled) (b : ℕ) (sets : List ℕ) (groups : List Edges) (s : ℕ) (group : Edges) → AreLookUps t b sets groups → IsLookUp t b s group → AreLookUps t b (sets ++ s ∷ []) (groups ++ group ∷ [])
+pub look_ups_more : (t : Tabled) (b : ℕ) (sets : List ℕ) (groups : List Edges) (s : ℕ) (group : Edges) → AreLookUps t b sets groups →
+    IsLookUp t b s group → AreLookUps t b (sets ++ s ∷ []) (groups ++ group ∷ [])
 look_ups_more t b [] [] s group all one = (one, tt)
 look_ups_more t b [] (g ∷ groups) s group all one = absurd all
 look_ups_more t b (r ∷ sets) [] s group all one = absurd all
@@ -299,13 +310,15 @@ step_is steps k x y at there = same_Some x y (sym at ∙ there)
 pub sets_more : (sets : List ℕ) (k s : ℕ) → slice_get sets k ≡ Some s → take (k + 1) sets ≡ take k sets ++ s ∷ []
 sets_more sets k s at = ap (λ n. take n sets) (add-one k) ∙ take_next sets k s at
 
-pub look_ups_next : (t : Tabled) (b : ℕ) (sets : List ℕ) (k : ℕ) (groups later : List Edges) (group : Edges) → k < length sets → AreLookUps t b (take k sets) groups → IsLookUp t b (get_or sets k 0) group →
+pub look_ups_next : (t : Tabled) (b : ℕ) (sets : List ℕ) (k : ℕ) (groups later : List Edges) (group : Edges) → k < length sets →
+    AreLookUps t b (take k sets) groups → IsLookUp t b (get_or sets k 0) group →
     later ≡ groups ++ group ∷ [] → AreLookUps t b (take (k + 1) sets) later
 look_ups_next t b sets k groups later group within all one is =
     subst (λ (gs : List Edges). AreLookUps t b (take (k + 1) sets) gs) (sym is)
     (subst (λ (ss : List ℕ). AreLookUps t b ss (groups ++ group ∷ [])) (sym (take_more sets k 0 within)) (look_ups_more t b (take k sets) groups (get_or sets k 0) group all one))
 
-pub handed_next : (t : Tabled) (b : ℕ) (sets : List ℕ) (k : ℕ) (to later : List ℕ) (next : ℕ) → k < length sets → AreLookUps t b (take k sets) (handing to) → IsLookUp t b (get_or sets k 0) (handing_to next) →
+pub handed_next : (t : Tabled) (b : ℕ) (sets : List ℕ) (k : ℕ) (to later : List ℕ) (next : ℕ) → k < length sets →
+    AreLookUps t b (take k sets) (handing to) → IsLookUp t b (get_or sets k 0) (handing_to next) →
     later ≡ to ++ next ∷ [] → AreLookUps t b (take (k + 1) sets) (handing later)
 handed_next t b sets k to later next within all one is =
     look_ups_next t b sets k (handing to) (handing later) (handing_to next) within all one (ap handing is ∙ handing_more to next)

@@ -104,7 +104,8 @@ module _ (t : Tabled) (p : Pass) (k b : ℕ) (goes : GoesOn t (as_layer (Some k)
         let handed = run_named sets (handing glide.to) p.graph (renamed glide.to p.graph) p.at n n number.every
         (hand_run p.graph glide.to p.at n goes.ready.fresh.0 no_next apart glide.distinct to_many) in
         let look_ups = subst (λ xs. AreLookUps t b xs (handing glide.to)) (sym sets_are) glide.look_ups in
-        subst (λ xs. PassReads (byte_at p.at b ∷ []) t (as_layer (Some k) p) n t (let q : Pass = record { graph = renamed xs p.graph; known = p.known; search = p.search; at = p.at + 1 } in q) n) (sym to_is)
+        subst (λ xs. PassReads (byte_at p.at b ∷ []) t (as_layer (Some k) p) n t (let q : Pass =
+        record { graph = renamed xs p.graph; known = p.known; search = p.search; at = p.at + 1 } in q) n) (sym to_is)
         (run_reads goes (handing glide.to) look_ups handed)
 
   -- ---- running a program
@@ -118,7 +119,8 @@ module _ (t : Tabled) (p : Pass) (k b : ℕ) (goes : GoesOn t (as_layer (Some k)
       let back = past_named (sets_of p.graph.layer) (renamed sets p.graph) p.at goes.ready.fresh.0 goes.ready.past in
       subst (λ g. IsPast (sources g) p.at) (renamed_again sets (sets_of p.graph.layer) p.graph number.every ∙ own_names (sets_of p.graph.layer) p.graph refl) back
 
-  module _ (step : KnownStep) (of : IsStepOf t p.known.layers b sets step) (h : Graph) (n m : ℕ) (run : IsRun p.graph p.at step.program.groups (renamed step.program.targets h) n m) (distinct : AreDistinct step.program.targets)
+  module _ (step : KnownStep) (of : IsStepOf t p.known.layers b sets step) (h : Graph) (n m : ℕ)
+      (run : IsRun p.graph p.at step.program.groups (renamed step.program.targets h) n m) (distinct : AreDistinct step.program.targets)
       (long : length step.program.targets ≡ length h.layer) where
     next_is : layer_at p.known.layers step.next ≡ step.program.targets
     next_is = layer_is p.known.layers step.next step.program.targets of.next
@@ -143,7 +145,11 @@ module _ (t : Tabled) (p : Pass) (k b : ℕ) (goes : GoesOn t (as_layer (Some k)
     run_numbered_reads search same =
         let done = run_named_reads in
         subst (λ xs. Reads_so (record { graph = renamed xs h; known = p.known; search = search; at = p.at + 1 })) (sym next_is)
-        (record { read = done.read; goes_on = record { ready = done.goes_on.ready; known = done.goes_on.known; waits = subst (λ a. KnowsWaiting t.graph.ways a.waiting) (sym same) done.goes_on.waits } })
+        (record {
+          read = done.read;
+          goes_on =
+              record { ready = done.goes_on.ready; known = done.goes_on.known; waits = subst (λ a. KnowsWaiting t.graph.ways a.waiting) (sym same) done.goes_on.waits };
+        })
 
 -- ---- bytes of a piece, one after another
 
@@ -162,7 +168,8 @@ advanced_here {t} k p {n} {bytes} goes =
 
 -- one byte more
 advanced_by : {t : Tabled} {q : Pass} {bytes : List ℕ} (p : Pass) (g h : Graph) (k next : ℕ) {j n c m : ℕ} → IsAdvanced t q n bytes j t (as_layer (Some k) (moved_to g j p)) c → j < length bytes →
-    PassReads (byte_at (p.at + j) (get_or bytes j 0) ∷ []) t (as_layer (Some k) (moved_to g j p)) c t (as_layer (Some next) (record { graph = h; known = p.known; search = p.search; at = p.at + j + 1 })) m →
+    PassReads (byte_at (p.at + j) (get_or bytes j 0) ∷ []) t (as_layer (Some k) (moved_to g j p)) c t
+    (as_layer (Some next) (record { graph = h; known = p.known; search = p.search; at = p.at + j + 1 })) m →
     IsAdvanced t q n bytes (j + 1) t (as_layer (Some next) (moved_to h (j + 1) p)) m
 advanced_by {t} {q} {bytes} p g h k next {j} {n} {c} {m} past within one =
     let same : p.at + j + 1 ≡ p.at + (j + 1) = omega arith in
@@ -248,30 +255,43 @@ pub same_pass : (p q : Pass) → p.graph ≡ q.graph → p.known ≡ q.known →
 same_pass p q g k s a = λ i. (let r : Pass = record { graph = g i; known = k i; search = s i; at = a i } in r)
 
 -- where the same bytes are passed over, in the layer
-pub read_over : {t0 : Tabled} {p0 : Pass} {n0 : ℕ} {piece : List ℕ} {i j : ℕ} {t : Tabled} (k : Option ℕ) (p q : Pass) {n : ℕ} → IsAdvanced t0 p0 n0 piece i t (as_layer k p) n → i ≤ j → j ≤ length piece →
+pub read_over : {t0 : Tabled} {p0 : Pass} {n0 : ℕ} {piece : List ℕ} {i j : ℕ} {t : Tabled} (k : Option ℕ) (p q : Pass) {n : ℕ} →
+    IsAdvanced t0 p0 n0 piece i t (as_layer k p) n → i ≤ j → j ≤ length piece →
     AllLeadBack t (in_layer p.known.layers k p.graph) (take (j - i) (drop i piece)) → in_layer p.known.layers k q.graph ≡ in_layer p.known.layers k p.graph → q.known ≡ p.known → q.at + i ≡ p.at + j →
     KnowsWaiting t.graph.ways q.search.ahead.waiting → IsAdvanced t0 p0 n0 piece j t (as_layer k q) n
 read_over k p q past later within back graph known at waits =
     advanced_over {p = as_layer k p} {q = as_layer k q} past later within back (ap (λ (x : Known). in_layer x.layers k q.graph) known ∙ graph) known at waits
 
 -- before the first byte, with what is known of the layer
-pub start_in : {t : Tabled} {p : Pass} {n : ℕ} {piece : List ℕ} {known : Known} {search : Search} (k : Option ℕ) → GoesOn t p → Knows t known → KnowsWaiting t.graph.ways search.ahead.waiting → Stands t p.graph known k →
+pub start_in : {t : Tabled} {p : Pass} {n : ℕ} {piece : List ℕ} {known : Known} {search : Search} (k : Option ℕ) → GoesOn t p → Knows t known →
+    KnowsWaiting t.graph.ways search.ahead.waiting → Stands t p.graph known k →
     IsAdvanced t p n piece 0 t (as_layer k (record { graph = p.graph; known = known; search = search; at = p.at })) n
 start_in {t} {p} {n} {piece} {known} {search} k goes knows waits stands =
-    subst (λ graph. IsAdvanced t p n piece 0 t (let q : Pass = record { graph = graph; known = known; search = search; at = p.at } in q) n) (sym (own_layer t p.graph known k stands)) (advanced_none goes knows waits)
+    subst (λ graph. IsAdvanced t p n piece 0 t (let q : Pass = record { graph = graph; known = known; search = search; at = p.at } in q) n)
+    (sym (own_layer t p.graph known k stands)) (advanced_none goes knows waits)
 
 -- where the names are written, and something else may be searched for
-pub named_reads : {ps : List ReadingPlace} {t u : Tabled} {p q : Pass} {n m : ℕ} (k : Option ℕ) (search : Search) → search.ahead ≡ q.search.ahead → Stands u q.graph q.known k → PassReads ps t p n u q m →
+pub named_reads : {ps : List ReadingPlace} {t u : Tabled} {p q : Pass} {n m : ℕ} (k : Option ℕ) (search : Search) → search.ahead ≡ q.search.ahead →
+    Stands u q.graph q.known k → PassReads ps t p n u q m →
     PassReads ps t p n u (as_layer k (record { graph = q.graph; known = q.known; search = search; at = q.at })) m
 named_reads {ps} {t} {u} {p} {q} {n} {m} k search same stands done =
     subst (λ graph. PassReads ps t p n u (let r : Pass = record { graph = graph; known = q.known; search = search; at = q.at } in r) m) (sym (own_layer u q.graph q.known k stands))
     (record { read = done.read; goes_on = record { ready = done.goes_on.ready; known = done.goes_on.known; waits = subst (λ a. KnowsWaiting u.graph.ways a.waiting) (sym same) done.goes_on.waits } })
 
 -- something else may be searched for
-pub searched : {t0 t : Tabled} {p0 : Pass} {n0 n : ℕ} {bytes : List ℕ} {j : ℕ} (k : Option ℕ) (p : Pass) (search : Search) → search.ahead ≡ p.search.ahead → IsAdvanced t0 p0 n0 bytes j t (as_layer k p) n →
+pub searched : {t0 t : Tabled} {p0 : Pass} {n0 n : ℕ} {bytes : List ℕ} {j : ℕ} (k : Option ℕ) (p : Pass) (search : Search) →
+    search.ahead ≡ p.search.ahead → IsAdvanced t0 p0 n0 bytes j t (as_layer k p) n →
     IsAdvanced t0 p0 n0 bytes j t (as_layer k (record { graph = p.graph; known = p.known; search = search; at = p.at })) n
 searched {t = t} k p search same past = record {
-  reads = record { read = past.reads.read; goes_on = record { ready = past.reads.goes_on.ready; known = past.reads.goes_on.known; waits = subst (λ a. KnowsWaiting t.graph.ways a.waiting) (sym same) past.reads.goes_on.waits } };
+  reads = record {
+    read = past.reads.read;
+    goes_on = record {
+      ready = past.reads.goes_on.ready;
+      known = past.reads.goes_on.known;
+      waits =
+          subst (λ a. KnowsWaiting t.graph.ways a.waiting) (sym same) past.reads.goes_on.waits;
+    };
+  };
   at = past.at;
 }
 

@@ -110,7 +110,8 @@ module _ {ask : Question} {t : Tabled} {p : Pass} {n : ℕ} (goes : GoesOn t p) 
         goes_on = record {
           ready = turns_ready (place_of p ask) (come t p n) p.at k goes.ready so_far past.stepping all H sources_are cells to later blocks begun none;
           known = subst (λ known. Knows u known) (sym past.known) (known_read _ _ _ _ _ _ _ read_here.table goes.known);
-          waits = subst (λ (search : Search). KnowsWaiting u.graph.ways search.ahead.waiting) (sym past.search) (subst (λ A. KnowsWaiting A.ways p.search.ahead.waiting) (sym read_here.table.graph) goes.waits);
+          waits = subst (λ (search : Search). KnowsWaiting u.graph.ways search.ahead.waiting) (sym past.search)
+              (subst (λ A. KnowsWaiting A.ways p.search.ahead.waiting) (sym read_here.table.graph) goes.waits);
         };
       }
 

@@ -407,7 +407,8 @@ module _ (A : Automaton) (p : ReadingPlace) (P : Progress) where
                   let k = past.given e.0.1 h in
                   let l = (past.sets r.to).0 (e.0.1, sym (named_now t n made e.0.1 k) ∙ e.3, h) in
                   let two = led_twice A (sets_of P) p.ask r.to (λ (y : Source). set_at P.table.sets y.set) done x left (sources P.graph) all refl l.0 l.1
-                  (leads_once A p.ask r.to (set_at P.table.sets l.0.set) l.2 l.3 l.4) (leads_once A p.ask r.to (set_at P.table.sets x.set) r (subst (λ (rs : List Reach). Has rs r) (sym lone) (inl refl)) refl) in
+                  (leads_once A p.ask r.to (set_at P.table.sets l.0.set) l.2 l.3 l.4)
+                  (leads_once A p.ask r.to (set_at P.table.sets x.set) r (subst (λ (rs : List Reach). Has rs r) (sym lone) (inl refl)) refl) in
                   omega (arith, two, few))
 
               made_here : length g.cells ≤ length Q.graph.cells + making_of A (sets_of P) p.ask (set_at P.table.sets x.set)

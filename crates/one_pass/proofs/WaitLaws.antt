@@ -245,7 +245,8 @@ left_taken chain d q le left =
 pub passed_back : (t : Tabled) → IsTabled t → (g : Graph) → AreGiven t g → (states : List ℕ) (chain : List ByteClass) → Waits t.graph.ways states chain →
     ((x : Source) → Has (sources g) x → IsOf states (set_at t.sets x.set)) → (d : List ℕ) → ((i : ℕ) → get_or d i 0 < 256) → (q : ℕ) → q ≤ length d → AreLeftBy chain d q → AllLeadBack t g (take q d)
 passed_back t tabled g given states chain waits of d small q le left x h =
-    waits_back t.graph states chain waits (set_at t.sets x.set) (tabled.sets (set_at t.sets x.set) (Has-get_or t.sets x.set [] (given x h))).order (of x h) (take q d) (small_taken d q small) (left_taken chain d q le left)
+    waits_back t.graph states chain waits (set_at t.sets x.set) (tabled.sets (set_at t.sets x.set) (Has-get_or t.sets x.set [] (given x h))).order
+    (of x h) (take q d) (small_taken d q small) (left_taken chain d q le left)
 
 -- the front of the front of a list
 pub front_of : (n w : ℕ) (xs : List ℕ) → n ≤ w → take n (take w xs) ≡ take n xs

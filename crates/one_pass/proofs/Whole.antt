@@ -285,7 +285,8 @@ module _ (A : Automaton) (K : ℕ → Bool) (d : List ℕ) (P : Progress) (graph
   pub whole_tells : (ps : List ReadingPlace) → ps ++ end_at (length d) ∷ [] ≡ places K d 0 false → (Q R : Progress) → HasRead A ps P Q → HasEnded A (length d) Q R →
       (look_up : LookUp) → IsDue A starts (places K d 0 false) look_up → Tells R.table look_up
   whole_tells ps all Q R read done look_up due =
-      elim (due_cases A starts (sets_of Q) ps (end_at (length d) ∷ []) (λ set k. (layer_sets ps Q read set).1 k) (λ set k. (layer_sets ps Q read set).0 k) look_up (subst (λ qs. IsDue A starts qs look_up) (sym all) due)) as (λ _. Tells R.table look_up) [
+      elim (due_cases A starts (sets_of Q) ps (end_at (length d) ∷ []) (λ set k. (layer_sets ps Q read set).1 k)
+      (λ set k. (layer_sets ps Q read set).0 k) look_up (subst (λ qs. IsDue A starts qs look_up) (sym all) due)) as (λ _. Tells R.table look_up) [
         | inl first ↦
             tells_grown Q.table R.table [] (look_ups_asked A (sets_of Q) (ended ∷ [])) done.table look_up
             (read.tells look_up (subst (λ sets. IsDue A sets ps look_up) (sym starts_are) first))

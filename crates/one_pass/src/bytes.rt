@@ -54,7 +54,8 @@ impl Pass {
         requires few { self.old.at + length bytes.now < 2 ^ 32 }
         ensures read { IfOk result (λ place. IsReadTo bytes.now table.old layer self.old steps.old place table.new self.new steps.new) }
         ensures some { IfOk result (λ place. 0 < length bytes.now → 0 < place.bytes) }
-        ensures given_up { IfErr result (GivesUp (bytes_at self.old.at bytes.now) table.old (as_layer layer self.old) steps.old table.new steps.new) }
+        ensures given_up { IfErr result
+            (GivesUp (bytes_at self.old.at bytes.now) table.old (as_layer layer self.old) steps.old table.new steps.new) }
     {
         match layer {
             Some(number) => self.read_numbered(table, number, bytes, steps),
@@ -74,9 +75,11 @@ impl Pass {
         requires goes_on { GoesOn table.old (as_layer (Some layer) self.old) }
         requires stands { IsNumbered self.old.graph self.old.known.layers layer }
         requires few { self.old.at + length bytes.now < 2 ^ 32 }
-        ensures read { IfOk result (λ place. IsReadTo bytes.now table.old (Some layer) self.old steps.old place table.new self.new steps.new) }
+        ensures read { IfOk result (λ place. IsReadTo bytes.now table.old (Some layer) self.old steps.old place
+            table.new self.new steps.new) }
         ensures some { IfOk result (λ place. 0 < length bytes.now → 0 < place.bytes) }
-        ensures given_up { IfErr result (GivesUp (bytes_at self.old.at bytes.now) table.old (as_layer (Some layer) self.old) steps.old table.new steps.new) }
+        ensures given_up { IfErr result
+            (GivesUp (bytes_at self.old.at bytes.now) table.old (as_layer (Some layer) self.old) steps.old table.new steps.new) }
     {
         let mut planned = [Planned { at: 0, program: 0 }; MOST_PLANNED];
         let outlook = self.look_ahead(table, layer, bytes, &mut planned);
@@ -113,9 +116,11 @@ impl Pass {
         requires goes_on { GoesOn table.old (as_layer (Some layer) self.old) }
         requires stands { IsNumbered self.old.graph self.old.known.layers layer }
         requires few { self.old.at + length bytes.now < 2 ^ 32 }
-        ensures read { IfOk result (λ place. IsReadTo bytes.now table.old (Some layer) self.old steps.old place table.new self.new steps.new) }
+        ensures read { IfOk result (λ place. IsReadTo bytes.now table.old (Some layer) self.old steps.old place
+            table.new self.new steps.new) }
         ensures some { IfOk result (λ place. 0 < length bytes.now → 0 < place.bytes) }
-        ensures given_up { IfErr result (GivesUp (bytes_at self.old.at bytes.now) table.old (as_layer (Some layer) self.old) steps.old table.new steps.new) }
+        ensures given_up { IfErr result
+            (GivesUp (bytes_at self.old.at bytes.now) table.old (as_layer (Some layer) self.old) steps.old table.new steps.new) }
     {
         let outlook = self.look_ahead(table, layer, bytes, &mut []);
         self.at += outlook.bytes as u32;
@@ -147,7 +152,8 @@ impl Pass {
         requires few { self.old.at + length bytes.now < 2 ^ 32 }
         ensures read { IfOk result (λ place. IsReadTo bytes.now table.old None self.old steps.old place table.new self.new steps.new) }
         ensures some { IfOk result (λ place. 0 < length bytes.now → 0 < place.bytes) }
-        ensures given_up { IfErr result (GivesUp (bytes_at self.old.at bytes.now) table.old (as_layer None self.old) steps.old table.new steps.new) }
+        ensures given_up { IfErr result
+            (GivesUp (bytes_at self.old.at bytes.now) table.old (as_layer None self.old) steps.old table.new steps.new) }
     {
         if bytes.len() == 0 {
             return Ok(Place {
@@ -271,10 +277,12 @@ impl Pass {
         requires goes_on { GoesOn table.old (as_layer layer self.old) }
         requires stands { StandsIn table.old self.old.graph self.old.known layer }
         requires few { self.old.at + 1 < 2 ^ 32 }
-        ensures read { IfOk result (λ next. PassReads (byte_at self.old.at byte ∷ []) table.old (as_layer layer self.old) steps.old table.new (as_layer next self.new) steps.new) }
+        ensures read { IfOk result (λ next. PassReads (byte_at self.old.at byte ∷ []) table.old
+            (as_layer layer self.old) steps.old table.new (as_layer next self.new) steps.new) }
         ensures at { OnOk result (self.new.at ≡ self.old.at + 1) }
         ensures stands { IfOk result (λ next. StandsIn table.new self.new.graph self.new.known next) }
-        ensures given_up { IfErr result (GivesUp (byte_at self.old.at byte ∷ []) table.old (as_layer layer self.old) steps.old table.new steps.new) }
+        ensures given_up { IfErr result
+            (GivesUp (byte_at self.old.at byte ∷ []) table.old (as_layer layer self.old) steps.old table.new steps.new) }
     {
         let layers = self.known.layers.len();
         self.name(layer);

@@ -119,7 +119,8 @@ impl Entries {
 
     /// Enters what is known of a byte of a layer, where there is room and its class has no other entry.
     pub(crate) fn enter(&mut self, layer: usize, byte: u8, entry: Entry)
-        ensures entered { (k b : ℕ) → b < 256 → (entry_at self.new k b ≡ entry_at self.old k b) ⊎ ((k ≡ layer) × (b ≡ byte) × (entry_at self.new k b ≡ entry)) }
+        ensures entered { (k b : ℕ) → b < 256 →
+            (entry_at self.new k b ≡ entry_at self.old k b) ⊎ ((k ≡ layer) × (b ≡ byte) × (entry_at self.new k b ≡ entry)) }
         ensures layers { length self.new.asked.items ≡ length self.old.asked.items }
     {
         if !is_entered(entry) {
@@ -164,7 +165,8 @@ fn is_room_for(entry: Entry, had: Entry) -> bool
 
 /// Room for so many entries, of which the new ones are unknown; whether there was memory.
 fn widen(entered: &mut Vec<Entry>, count: usize) -> bool
-    ensures same { (k : ℕ) → k < length entered.old.items → slice_index_or entered.new.items k unknown ≡ slice_index_or entered.old.items k unknown }
+    ensures same { (k : ℕ) → k < length entered.old.items →
+        slice_index_or entered.new.items k unknown ≡ slice_index_or entered.old.items k unknown }
     ensures longer { length entered.old.items ≤ length entered.new.items }
     ensures room { IsTrue result → count ≤ length entered.new.items }
 {

@@ -106,13 +106,15 @@ impl<'a> KnownTable<'a> {
     ) -> Result<Listed<'a>, TableFault>
         requires few { length doc.now ≤ 2 ^ 28 }
         requires within { (q : ℕ) → Covers positions.now q → q ≤ length doc.now }
-        ensures words { IfOk result (λ r. AreReadWords self.entry.graph (is_touched positions.now) doc.now (rows r.lists.store r.lists.first)) }
+        ensures words { IfOk result (λ r. AreReadWords self.entry.graph (is_touched positions.now) doc.now
+            (rows r.lists.store r.lists.first)) }
         ensures order { IfOk result (λ r. AreInOrder (rows r.lists.store r.lists.first)) }
         ensures kept { IfOk result (λ r. HasKept self.entry r.table) }
         ensures weighs { OnOk result (WeighsWithin self.entry.graph doc.now (is_touched positions.now) self.entry.limit) }
         ensures cells { IfOk result (λ r. length r.lists.store ≤ edges_K self.entry.graph doc.now (is_touched positions.now) + 1) }
         ensures steps { steps.new + 1 ≤ steps.old + build self.entry.graph doc.now (is_touched positions.now) }
-        ensures cause { IfErr result (λ e. IsNew self.entry.graph self.entry → IsReadFault self.entry.graph (is_touched positions.now) doc.now self.entry.limit e) }
+        ensures cause { IfErr result (λ e. IsNew self.entry.graph self.entry →
+            IsReadFault self.entry.graph (is_touched positions.now) doc.now self.entry.limit e) }
     {
         let KnownTable {
             mut table,

@@ -23,7 +23,8 @@ impl Pass {
         requires apart { AreApart parts.now }
         requires within { (q : ℕ) → Covers parts.now q → q ≤ length doc.now }
         requires few { length doc.now ≤ 2 ^ 28 }
-        ensures read { OnOk result (PassReads (parts_places 0 parts.now doc.now) table.old self.old steps.old table.new self.new steps.new) }
+        ensures read { OnOk result (PassReads (parts_places 0 parts.now doc.now) table.old self.old steps.old table.new
+            self.new steps.new) }
         ensures at { OnOk result (self.new.at ≡ length doc.now) }
         ensures given_up { IfErr result (GivesUp (parts_places 0 parts.now doc.now) table.old self.old steps.old table.new steps.new) }
     {

@@ -37,9 +37,11 @@ pub fn advance<L: Ledger>(
 ) -> Result<OutputGraph, TableFault>
     requires open { IsOpen table.old graph at }
     requires few { at + length piece.now ≤ 2 ^ 28 }
-    ensures read { IfOk result (λ g. HasRead table.old.graph (bytes_at at piece.now) (pass table.old graph steps.old) (pass table.new g steps.new)) }
+    ensures read { IfOk result (λ g. HasRead table.old.graph (bytes_at at piece.now) (pass table.old graph steps.old)
+        (pass table.new g steps.new)) }
     ensures open { IfOk result (λ g. IsOpen table.new g (at + length piece.now)) }
-    ensures stopped { OnErr result (HasStopped table.old.graph (bytes_at at piece.now) (pass table.old graph steps.old) (stop table.new steps.new)) }
+    ensures stopped { OnErr result (HasStopped table.old.graph (bytes_at at piece.now) (pass table.old graph steps.old)
+        (stop table.new steps.new)) }
     ensures cause { IfErr result (λ e. IsFaultAt (bytes_at at piece.now) (pass table.old graph steps.old) e) }
 {
     table.is_table();
@@ -72,7 +74,8 @@ pub fn finish<L: Ledger>(
     ensures every { IfOk result (λ g. g.stepped ≡ length g.layer) }
     ensures only { IfOk result (λ g. (s : ℕ) → Has (numbers_in g.next) s → s ≡ 0) }
     ensures stopped { OnErr result (HasStoppedAt table.old.graph (end_at at) (pass table.old graph steps.old) (stop table.new steps.new)) }
-    ensures cause { IfErr result (λ e. IsFaultOf table.old [] (look_ups_asked table.old.graph (sets_of (pass table.old graph steps.old)) (ended ∷ [])) e) }
+    ensures cause { IfErr result (λ e. IsFaultOf table.old []
+        (look_ups_asked table.old.graph (sets_of (pass table.old graph steps.old)) (ended ∷ [])) e) }
 {
     table.is_table();
     graph.is_graph();

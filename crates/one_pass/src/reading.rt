@@ -41,7 +41,8 @@ pub fn read<L: Ledger>(
     ensures ended { IfOk result (λ g. g.stepped ≡ length g.layer) }
     ensures only { IfOk result (λ g. (s : ℕ) → Has (sets_of g.next) s → s ≡ 0) }
     ensures weighs { OnOk result (WeighsWithin table.old.graph doc.now (is_touched positions.now) table.old.limit) }
-    ensures steps { IfOk result (λ g. steps.new + (2 * length g.cells + 2) + 1 ≤ steps.old + build table.old.graph doc.now (is_touched positions.now)) }
+    ensures steps { IfOk result (λ g. steps.new + (2 * length g.cells + 2) + 1 ≤ steps.old + build table.old.graph
+        doc.now (is_touched positions.now)) }
     ensures cells { IfOk result (λ g. length g.cells ≤ edges_K table.old.graph doc.now (is_touched positions.now) + 1) }
     ensures stopped { OnErr result (steps.new + 1 ≤ steps.old + build table.old.graph doc.now (is_touched positions.now)) }
     ensures kept { OnErr result (HasKept table.old table.new) }

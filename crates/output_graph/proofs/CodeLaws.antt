@@ -71,15 +71,18 @@ symbol_cell sources made (y ∷ symbols) [] r x are e = absurd are
 symbol_cell sources made (y ∷ symbols) (p ∷ registers) zero x are e = sym are.0 ∙ ap (λ (z : Register). cell_in sources made z) (same_Some y x e)
 symbol_cell sources made (y ∷ symbols) (p ∷ registers) (suc r) x are e = symbol_cell sources made symbols registers r x are.1 e
 
-pub symbol_within : (sources : Layer) (made : List ℕ) (symbols : List Register) (registers : Layer) (r : ℕ) (x : Register) → AreHeld sources made symbols registers → slice_get symbols r ≡ Some x → r < length registers
+pub symbol_within : (sources : Layer) (made : List ℕ) (symbols : List Register) (registers : Layer) (r : ℕ) (x : Register) →
+    AreHeld sources made symbols registers → slice_get symbols r ≡ Some x → r < length registers
 symbol_within sources made symbols registers r x are e = omega (arith, held_length sources made symbols registers are, slice_get_within symbols r x e)
 
-pub also_within : (sources : Layer) (made : List ℕ) (symbols : List Register) (registers : Layer) (also : Option ℕ) (wanted : Option Register) → AreHeld sources made symbols registers → IsAlso symbols also wanted →
+pub also_within : (sources : Layer) (made : List ℕ) (symbols : List Register) (registers : Layer) (also : Option ℕ) (wanted : Option Register) →
+    AreHeld sources made symbols registers → IsAlso symbols also wanted →
     IfSome also (λ r. r < length registers)
 also_within sources made symbols registers None wanted are is = tt
 also_within sources made symbols registers (Some r) wanted are is = symbol_within sources made symbols registers r is.0 are is.1
 
-pub also_same : (sources : Layer) (made : List ℕ) (symbols : List Register) (registers : Layer) (also : Option ℕ) (wanted : Option Register) → AreHeld sources made symbols registers → IsAlso symbols also wanted →
+pub also_same : (sources : Layer) (made : List ℕ) (symbols : List Register) (registers : Layer) (also : Option ℕ) (wanted : Option Register) →
+    AreHeld sources made symbols registers → IsAlso symbols also wanted →
     cell_at registers also ≡ also_in sources made wanted
 also_same sources made symbols registers None wanted are is = ap (λ (o : Option Register). also_in sources made o) (sym is)
 also_same sources made symbols registers (Some r) wanted are is =
@@ -117,7 +120,8 @@ drop_head {A = A} (x ∷ xs) zero a h e = ap (λ (y : A). y ∷ xs) (sym e) ∙ 
 drop_head (x ∷ xs) (suc i) a h e = drop_head xs i a (omega arith) e
 
 -- this code is left of one, and what it does leads on
-pub record IsRunning (sources : Layer) (at : ℕ) (Then : Point → Type 0) (code : List Instruction) (held : List Register) (registers : Layer) (cells : List NamedLink) (holds : Holds) (now : ℕ) : Type 0 where
+pub record IsRunning (sources : Layer) (at : ℕ) (Then : Point → Type 0) (code : List Instruction) (held : List Register) (registers : Layer)
+    (cells : List NamedLink) (holds : Holds) (now : ℕ) : Type 0 where
   pub symbols : List Register
   pub left : List Action
   pub made : List ℕ
@@ -125,8 +129,10 @@ pub record IsRunning (sources : Layer) (at : ℕ) (Then : Point → Type 0) (cod
   pub does : DoesAll symbols (length made) code left held
   pub leads : Leads sources at Then left (point made cells holds now)
 
-pub running_head : {sources : Layer} {at : ℕ} {Then : Point → Type 0} {held : List Register} {registers : Layer} {cells : List NamedLink} {holds : Holds} {now : ℕ} (code : List Instruction) (i : ℕ) (a b : Instruction) →
-    IsRunning sources at Then (drop i code) held registers cells holds now → i < length code → a ≡ get_or code i a → a ≡ b → IsRunning sources at Then (b ∷ drop (suc i) code) held registers cells holds now
+pub running_head : {sources : Layer} {at : ℕ} {Then : Point → Type 0} {held : List Register} {registers : Layer} {cells : List NamedLink}
+    {holds : Holds} {now : ℕ} (code : List Instruction) (i : ℕ) (a b : Instruction) →
+    IsRunning sources at Then (drop i code) held registers cells holds now → i < length code → a ≡ get_or code i a → a ≡ b →
+    IsRunning sources at Then (b ∷ drop (suc i) code) held registers cells holds now
 running_head {sources} {at} {Then} {held} {registers} {cells} {holds} {now} code i a b run h item is =
     subst (λ (x : Instruction). IsRunning sources at Then (x ∷ drop (suc i) code) held registers cells holds now) is
     (subst (λ (xs : List Instruction). IsRunning sources at Then xs held registers cells holds now) (drop_head code i a h item) run)
@@ -164,7 +170,8 @@ module _ {sources : Layer} {at : ℕ} {Then : Point → Type 0} {code : List Ins
           (subst (λ (n : ℕ). IfSome (also_in sources run.made link.also) (λ b. (hold holds b ≡ 1) × (b ≡ n → ⊥))) from_is led.4)
 
       pub create_next : (name : ℕ) → (HasCell cells name → ⊥) → (after : Layer) (cells_after : List NamedLink) (holds_after : Holds) (later : ℕ) → after ≡ with_cell registers m.to name →
-          cells_after ≡ new_link name at m.marks c o ∷ cells → holds_after ≡ with_hold (less_hold holds o) name 1 → later ≡ now + 1 → IsRunning sources at Then code held after cells_after holds_after later
+          cells_after ≡ new_link name at m.marks c o ∷ cells → holds_after ≡ with_hold (less_hold holds o) name 1 → later ≡ now + 1 →
+          IsRunning sources at Then code held after cells_after holds_after later
       create_next name fresh after cells_after holds_after later after_is cells_is holds_is later_is =
           let more : List ℕ = run.made ++ name ∷ [] in
           let b : Option ℕ = also_in sources run.made link.also in
@@ -178,7 +185,8 @@ module _ {sources : Layer} {at : ℕ} {Then : Point → Type 0} {code : List Ins
             left = run.does.1;
             made = more;
             are = subst (λ (l : Layer). AreHeld sources more (put run.symbols m.to (Made (length run.made))) l) (sym after_is)
-                (held_with sources more run.symbols registers m.to name (Made (length run.made)) (held_more sources run.made name run.symbols registers run.are) (made_there run.made name (length run.made) refl));
+                (held_with sources more run.symbols registers m.to name (Made (length run.made))
+                (held_more sources run.made name run.symbols registers run.are) (made_there run.made name (length run.made) refl));
             does = subst (λ n. DoesAll (put run.symbols m.to (Made (length run.made))) n code run.does.1 held) long run.does.4;
             leads = subst (λ (t : Point). Leads sources at Then run.does.1 t) (λ i. point more (cells_same i) (holds_same i) (sym later_is i)) (led.5 name fresh);
           }
@@ -257,7 +265,8 @@ own_sets [] = refl
 own_sets (p ∷ registers) = ap (λ xs. p.0 ∷ xs) (own_sets registers)
 
 pub come_end : (first : Graph) (at : ℕ) (p : Plan) (before : ℕ) (code : List Instruction) (i : ℕ) {registers : Layer} {cells : List NamedLink} {holds : Holds} {now : ℕ} (after : ℕ) →
-    IsRunning first.layer at (Runs first at p before) (drop i code) p.held.items registers cells holds now → length code ≤ i → after ≡ now + length p.counts.items → HasCome first at p before registers cells holds after
+    IsRunning first.layer at (Runs first at p before) (drop i code) p.held.items registers cells holds now → length code ≤ i →
+    after ≡ now + length p.counts.items → HasCome first at p before registers cells holds after
 come_end first at p before code i {registers} {cells} {holds} {now} after run all later =
     let does : DoesAll run.symbols (length run.made) [] run.left p.held.items =
     subst (λ (xs : List Instruction). DoesAll run.symbols (length run.made) xs run.left p.held.items) (drop_all i code all) run.does in

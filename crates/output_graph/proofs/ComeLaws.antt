@@ -16,7 +16,8 @@ use Rattle.output_graph.proofs.HeldLaws.{held_length, targets_long}
 use Rattle.output_graph.proofs.NamedLaws.{named_again, named_length, named_own, sound_named}
 
 -- the first registers, by the sets of the next layer, are that layer
-pub named_held : (sources : Layer) (made : List ℕ) (held rest : List Register) (registers next : Layer) → AreHeld sources made (held ++ rest) registers → AreHeld sources made held next → named (sets_of next) registers ≡ next
+pub named_held : (sources : Layer) (made : List ℕ) (held rest : List Register) (registers next : Layer) →
+    AreHeld sources made (held ++ rest) registers → AreHeld sources made held next → named (sets_of next) registers ≡ next
 named_held sources made [] rest registers [] a b = refl
 named_held sources made [] rest registers (p ∷ next) a b = absurd b
 named_held sources made (r ∷ held) rest registers [] a b = absurd b

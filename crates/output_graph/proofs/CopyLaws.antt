@@ -271,7 +271,8 @@ pub record IsCopied (cells copies : List NamedLink) (layer after : Layer) (holds
   pub sources_same : map (source_of copies) after ≡ map (source_of cells) layer
   pub many : length copies ≡ length cells
 
-pub copy_done : (g : Graph) (old new : Cells) (before names after : List ℕ) (layer : Layer) (copy : ℕ → ℕ) → IsSound g old.holds → g.stepped ≡ 0 → g.cells ≡ old.cells → IsCopy copy old new before names →
+pub copy_done : (g : Graph) (old new : Cells) (before names after : List ℕ) (layer : Layer) (copy : ℕ → ℕ) → IsSound g old.holds → g.stepped ≡ 0 →
+    g.cells ≡ old.cells → IsCopy copy old new before names →
     IsArena new → before ≡ cells_in g.layer → after ≡ names → layer ≡ paired g.layer after → IsCopied g.cells new.cells g.layer layer new.holds
 copy_done g old new before names after layer copy sound start same is arena eb ea el =
     let one : IsOneToOne copy g.cells = subst (λ (cs : List NamedLink). IsOneToOne copy cs) (sym same) is.one_to_one in
@@ -299,6 +300,7 @@ layer_there g holds names sound start e c h =
     i.there r.0 c r.1
 
 -- and as many copies
-pub names_many : (copy : ℕ → ℕ) (old new : Cells) (before names after : List ℕ) (layer : Layer) → IsCopy copy old new before names → before ≡ cells_in layer → after ≡ names → length after ≡ length layer
+pub names_many : (copy : ℕ → ℕ) (old new : Cells) (before names after : List ℕ) (layer : Layer) → IsCopy copy old new before names →
+    before ≡ cells_in layer → after ≡ names → length after ≡ length layer
 names_many copy old new before names after layer is eb ea =
     ap length (ea ∙ (is.names ∙ ap (λ (xs : List ℕ). map copy xs) eb)) ∙ (length-map (cells_in layer) copy ∙ length-map layer (λ (p : ℕ × ℕ). p.1))

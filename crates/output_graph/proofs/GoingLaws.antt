@@ -72,7 +72,8 @@ module _ (sources : Layer) (first : Graph) (at : ℕ) (groups : List Edges) (bef
       let p : ℕ × ℕ = is.0 in
       let there : slice_get sources k ≡ Some p = is.1 in
       let falls : Descend (edges_in mine) = subst (λ (es : Edges). Descend es) (sym (edges_take left n)) going.descend.0 in
-      source_leads sources at k p.1 Then (all_actions (suc k) (places_after k s mine) counts later) (cell_there sources k p there) cells next holds now (edges_in mine) (targets_from (sets_of next) mine) (places_after k s mine)
+      source_leads sources at k p.1 Then (all_actions (suc k) (places_after k s mine) counts later) (cell_there sources k p there) cells next holds
+      now (edges_in mine) (targets_from (sets_of next) mine) (places_after k s mine)
       (λ cells_after next_after holds_after made_after after ended spent more sets_after held_after count_after.
       let new : Graph = graph_of cells_after sources next_after (k + 1) at in
       let sound : IsSound new holds_after = sound_after here holds going.sound p there at going.place (edges_in mine) falls cells_after next_after holds_after ended in
@@ -80,7 +81,8 @@ module _ (sources : Layer) (first : Graph) (at : ℕ) (groups : List Edges) (bef
       let cost : IsCost (length (edges_in mine)) (length cells) (length cells_after) (now + k) (after + (k + 1)) =
       is_cost (length (edges_in mine)) (length cells) (length cells_after) (now + k) (after + (k + 1)) (spent_later (length (edges_in mine)) (length cells) (length cells_after) now after k spent) in
       let apart : AreApart (targets new) = targets_apart new holds_after sound in
-      all_lead counts later (suc k) (places_after k s mine) made_after cells_after next_after holds_after after (subst (λ (j : ℕ). IsGoing sources first at groups before sets fin every counts later j (places_after k s mine) made_after cells_after next_after holds_after after) (add-one k) (record {
+      all_lead counts later (suc k) (places_after k s mine) made_after cells_after next_after holds_after after
+      (subst (λ (j : ℕ). IsGoing sources first at groups before sets fin every counts later j (places_after k s mine) made_after cells_after next_after holds_after after) (add-one k) (record {
         last = at;
         onward = λ h m stepped.
             going.onward h m

@@ -108,7 +108,8 @@ module _ (sets : List ℕ) {g m : Graph} {at : ℕ} {es : Edges} (many : length 
       let next : m.stepped ≡ suc g.stepped = omega (arith, s.stepped) in
       let names_later : drop (suc g.stepped) sets ≡ names = drop_rest sets g.stepped n names ns in
       let left_later : drop (suc g.stepped) g.layer ≡ left = drop_rest g.layer g.stepped p left ls in
-      let later : sources m ≡ map (source_of m.cells) left = ap (λ (l : Layer). map (source_of m.cells) (drop m.stepped l)) s.layer ∙ (ap (λ k. map (source_of m.cells) (drop k g.layer)) next ∙ ap (map (source_of m.cells)) left_later) in
+      let later : sources m ≡ map (source_of m.cells) left = ap (λ (l : Layer). map (source_of m.cells) (drop m.stepped l)) s.layer ∙
+      (ap (λ k. map (source_of m.cells) (drop k g.layer)) next ∙ ap (map (source_of m.cells)) left_later) in
       let both : source_of g.cells p ∷ map (source_of g.cells) left ≡ s.left.0 ∷ map (source_of m.cells) left =
       ap (map (source_of g.cells)) (sym ls) ∙ (s.left.1 ∙ ap (λ (xs : List Source). s.left.0 ∷ xs) later) in
       let here = first_is (source_of g.cells p) s.left.0 (map (source_of g.cells) left) (map (source_of m.cells) left) both in
@@ -134,7 +135,8 @@ module _ (sets : List ℕ) {g m : Graph} {at : ℕ} {es : Edges} (many : length 
         left = (
           first.0,
           first.1,
-          subst (λ (ws : List Word). (r : ℕ) (w : Word) → ((HasWord (targets m) r w → HasWord (targets g) r w ⊎ Brings ws at es r w) × (HasWord (targets g) r w ⊎ Brings ws at es r w → HasWord (targets m) r w))) (sym first.2) s.left.2,
+          subst (λ (ws : List Word). (r : ℕ) (w : Word) →
+              ((HasWord (targets m) r w → HasWord (targets g) r w ⊎ Brings ws at es r w) × (HasWord (targets g) r w ⊎ Brings ws at es r w → HasWord (targets m) r w))) (sym first.2) s.left.2,
         );
         reached = s.reached;
         few = s.few;
@@ -145,7 +147,8 @@ stepped_layer : (groups : List Edges) (g h : Graph) (at n m : ℕ) → AreSteppe
 stepped_layer [] g h at n m (same, count) = ap (λ (x : Graph). x.layer) (sym same)
 stepped_layer (es ∷ groups) g h at n m (mid, middle, stepped, cost, apart, later) = stepped_layer groups mid h at middle m later ∙ stepped.layer
 
-steps_named : (sets : List ℕ) (groups : List Edges) (g h : Graph) (at n m : ℕ) → length sets ≡ length g.layer → AreStepped g at groups h n m → AreStepped (renamed sets g) at groups (renamed sets h) n m
+steps_named : (sets : List ℕ) (groups : List Edges) (g h : Graph) (at n m : ℕ) → length sets ≡ length g.layer → AreStepped g at groups h n m →
+    AreStepped (renamed sets g) at groups (renamed sets h) n m
 steps_named sets [] g h at n m many (same, count) = (ap (renamed sets) same, count)
 steps_named sets (es ∷ groups) g h at n m many (mid, middle, stepped, cost, apart, later) = (
   renamed sets mid,
@@ -181,7 +184,8 @@ named_back (n ∷ names) [] p h = absurd h
 named_back (n ∷ names) (q ∷ layer) p (inl e) = (q, inl refl, ap (λ (x : ℕ × ℕ). x.1) e)
 named_back (n ∷ names) (q ∷ layer) p (inr h) = let r = named_back names layer p h in (r.0, inr r.1, r.2)
 
-named_word : (cells : List NamedLink) (names : List ℕ) (layer : Layer) (s : ℕ) (w : Word) → HasWord (map (source_of cells) (named names layer)) s w → (r : ℕ) × HasWord (map (source_of cells) layer) r w
+named_word : (cells : List NamedLink) (names : List ℕ) (layer : Layer) (s : ℕ) (w : Word) → HasWord (map (source_of cells) (named names layer)) s w →
+    (r : ℕ) × HasWord (map (source_of cells) layer) r w
 named_word cells names layer s w h =
     let p = Has-map_cases (source_of cells) (named names layer) h.0 h.1 in
     let q = named_back names layer p.0 p.1 in (
@@ -296,7 +300,8 @@ module _ (g : Graph) (at : ℕ) (apart : AreApart (map (source_of g.cells) g.lay
 
     word_there : (s : ℕ) (w : Word) → HasWord (targets After) s w → HasWord (targets Before) s w ⊎ Brings (words g.cells p.1) at (handing_to k) s w
     word_there s w h =
-        elim (Has-append_cases (targets Before) (record { set = k; words = words g.cells p.1 } ∷ []) h.0 (subst (λ (xs : List Source). Has xs h.0) targets_are h.1)) as (λ _. HasWord (targets Before) s w ⊎ Brings (words g.cells p.1) at (handing_to k) s w) [
+        elim (Has-append_cases (targets Before) (record { set = k; words = words g.cells p.1 } ∷ []) h.0
+        (subst (λ (xs : List Source). Has xs h.0) targets_are h.1)) as (λ _. HasWord (targets Before) s w ⊎ Brings (words g.cells p.1) at (handing_to k) s w) [
           | inl old ↦ inl (h.0, old, h.2, h.3)
           | inr (inl e) ↦ inr ((0, k), w, inl refl, ap (λ (x : Source). x.set) e ∙ h.2, subst (λ (x : Source). Has x.words w) (sym e) h.3, append-nil w)
           | inr (inr none) ↦ absurd none
@@ -333,7 +338,8 @@ module _ (g : Graph) (at : ℕ) (apart : AreApart (map (source_of g.cells) g.lay
       place = refl;
       left = (
         source_of g.cells p,
-        ap (map (source_of g.cells)) left ∙ ap (λ (l : Layer). source_of g.cells p ∷ map (source_of g.cells) l) (sym (drop_rest g.layer (length done) p rest left) ∙ ap (λ n. drop n g.layer) (sym longer)),
+        ap (map (source_of g.cells)) left ∙
+            ap (λ (l : Layer). source_of g.cells p ∷ map (source_of g.cells) l) (sym (drop_rest g.layer (length done) p rest left) ∙ ap (λ n. drop n g.layer) (sym longer)),
         λ s w. (word_there s w, word_back s w),
       );
       reached = λ s. (reached_there s, reached_back s);
@@ -418,7 +424,8 @@ named_at (suc k) [] (p ∷ layer) e = absurd (omega (arith, e))
 named_at (suc k) (s ∷ sets) [] e = absurd (omega (arith, e))
 named_at (suc k) (s ∷ sets) (p ∷ layer) e = named_at k sets layer (omega (arith, e))
 
-pub named_more : (k : ℕ) (sets : List ℕ) (layer : Layer) (s : ℕ) (p : ℕ × ℕ) → slice_get sets k ≡ Some s → slice_get layer k ≡ Some p → set (named_first k sets layer) k (s, p.1) ≡ named_first (suc k) sets layer
+pub named_more : (k : ℕ) (sets : List ℕ) (layer : Layer) (s : ℕ) (p : ℕ × ℕ) → slice_get sets k ≡ Some s → slice_get layer k ≡ Some p →
+    set (named_first k sets layer) k (s, p.1) ≡ named_first (suc k) sets layer
 named_more zero [] layer s p has there = cc
 named_more zero (n ∷ sets) [] s p has there = cc
 named_more zero (n ∷ sets) (q ∷ layer) s p has there = ap (λ (x : ℕ × ℕ). (s, x.1) ∷ layer) (sym (same_Some q p there)) ∙ ap (λ m. (m, q.1) ∷ layer) (sym (same_Some n s has))

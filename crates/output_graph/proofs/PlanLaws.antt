@@ -111,7 +111,8 @@ edges_one : (given : List Edge) (e : Edge) → edges_of (given ++ e ∷ []) ≡ 
 edges_one [] e = refl
 edges_one (g ∷ given) e = ap (λ (es : Edges). (g.marks, g.to) ∷ es) (edges_one given e)
 
-module _ (k : ℕ) (old : Plan) (given : List Edge) (mid : Plan) (on : Bool) (so : HasEdges k old given mid on) (e : Edge) (new : Plan) (kept now : Bool) (one : HasEdge k mid e new kept) (is : now ≡ (on || kept)) where
+module _ (k : ℕ) (old : Plan) (given : List Edge) (mid : Plan) (on : Bool) (so : HasEdges k old given mid on) (e : Edge) (new : Plan)
+    (kept now : Bool) (one : HasEdge k mid e new kept) (is : now ≡ (on || kept)) where
   abbrev start : Places
   start = places_of old.held.items old.made
 
@@ -158,7 +159,8 @@ edges_append [] ys = refl
 edges_append (x ∷ xs) ys = ap (λ (es : Edges). (x.marks, x.to) ∷ es) (edges_append xs ys)
 
 -- the edges of one source more
-module _ (k : ℕ) (old : Plan) (is : IsPlan old) (given : List Edge) (mid : Plan) (on : Bool) (so : HasEdges k old given mid on) (ns : List ℕ) (ms : List Move) (counts : ns ≡ old.counts.items ++ length given ∷ [])
+module _ (k : ℕ) (old : Plan) (is : IsPlan old) (given : List Edge) (mid : Plan) (on : Bool) (so : HasEdges k old given mid on) (ns : List ℕ)
+    (ms : List Move) (counts : ns ≡ old.counts.items ++ length given ∷ [])
     (moves : ms ≡ mid.moves.items) where
   moves_are : ms ≡ old.moves.items ++ so.more
   moves_are = moves ∙ so.moves
@@ -175,7 +177,8 @@ module _ (k : ℕ) (old : Plan) (is : IsPlan old) (given : List Edge) (mid : Pla
       ∙ (ap (λ (es : Edges). cut (old.counts.items ++ length given ∷ []) es) edges_are ∙ cut_more old.counts.items (edges_in old.moves.items) (edges_of given) (length given) long is.counted)
 
 -- one source more
-module _ (k : ℕ) (old : Plan) (is : IsPlan old) (at : k ≡ length old.counts.items) (given : List Edge) (descend : Descend (edges_of given)) (mid : Plan) (on : Bool) (so : HasEdges k old given mid on) (new : Plan)
+module _ (k : ℕ) (old : Plan) (is : IsPlan old) (at : k ≡ length old.counts.items) (given : List Edge) (descend : Descend (edges_of given))
+    (mid : Plan) (on : Bool) (so : HasEdges k old given mid on) (new : Plan)
     (counts : new.counts.items ≡ old.counts.items ++ length given ∷ []) (moves : new.moves ≡ mid.moves) (targets : new.targets ≡ mid.targets) (held : new.held ≡ mid.held) (made : new.made ≡ mid.made)
     (actions : new.actions.items ≡ mid.actions.items ++ release_of on k) where
   abbrev begun : Places
@@ -222,7 +225,8 @@ module _ (k : ℕ) (old : Plan) (is : IsPlan old) (at : k ≡ length old.counts.
   plan_next = record {
     counted =
         subst (λ (ns : List ℕ). AreCounted ns (edges_in new.moves.items)) (sym counts)
-        (subst (λ (es : Edges). AreCounted (old.counts.items ++ length given ∷ []) es) (sym those_are) (counted_more old.counts.items (edges_in old.moves.items) (edges_of given) (length given) as_many is.counted));
+        (subst (λ (es : Edges). AreCounted (old.counts.items ++ length given ∷ []) es) (sym those_are)
+        (counted_more old.counts.items (edges_in old.moves.items) (edges_of given) (length given) as_many is.counted));
     descend = subst (λ (gs : List Edges). AllDescend gs) (sym groups_are) (descend_more (cut old.counts.items (edges_in old.moves.items)) (edges_of given) is.descend descend);
     placed = subst (λ (ms : List Move). ArePlaced [] ms) (sym these_are)
         (placed_split [] old.moves.items so.more is.placed (subst (λ (ts : List ℕ). ArePlaced ts so.more) (sym is.targets) so.placed));

@@ -20,7 +20,13 @@ module _ (programs : List Steps) where
   -- it has been run on what those before it lead to
   pub run_split : (plan : List Planned) (x : Planned) (g h : Graph) (n m : ℕ) → AreRun programs (plan ++ x ∷ []) g h n m →
       (mid : Graph) × (k : ℕ) × AreRun programs plan g mid n k × IsRunBy (program_at programs x.program) x.at mid h k m
-  run_split [] x g h n m r = (g, n, (refl, refl), subst (λ (k : ℕ). IsRunBy (program_at programs x.program) x.at g h n k) r.3.1 (subst (λ (f : Graph). IsRunBy (program_at programs x.program) x.at g f n r.1) r.3.0 r.2))
+  run_split [] x g h n m r = (
+    g,
+    n,
+    (refl, refl),
+    subst (λ (k : ℕ). IsRunBy (program_at programs x.program) x.at g h n k) r.3.1
+        (subst (λ (f : Graph). IsRunBy (program_at programs x.program) x.at g f n r.1) r.3.0 r.2),
+  )
   run_split (p ∷ plan) x g h n m r = let s = run_split plan x r.0 h r.1 m r.3 in (s.0, s.1, (r.0, r.1, r.2, s.2), s.3)
 
   -- and may be, if it may be run there

@@ -41,7 +41,8 @@ pub rows_at : (store : List NamedRow) (k : ℕ) (r : NamedRow) → AreMade store
     (rows store (Row k) ≡ map (λ w. (r.at, r.marks) ∷ w) (rows store r.child) ++ rows store r.next) × IsThere store r.child × IsThere store r.next × (r.child ≡ Nothing → ⊥)
 rows_at [] k r made is = cc
 rows_at (q ∷ older) k r made is = elim (cases_eq q.name k) as
-    (λ _. (rows (q ∷ older) (Row k) ≡ map (λ w. (r.at, r.marks) ∷ w) (rows (q ∷ older) r.child) ++ rows (q ∷ older) r.next) × IsThere (q ∷ older) r.child × IsThere (q ∷ older) r.next × (r.child ≡ Nothing → ⊥)) [
+    (λ _. (rows (q ∷ older) (Row k) ≡ map (λ w. (r.at, r.marks) ∷ w) (rows (q ∷ older) r.child) ++ rows (q ∷ older) r.next) ×
+    IsThere (q ∷ older) r.child × IsThere (q ∷ older) r.next × (r.child ≡ Nothing → ⊥)) [
       | inl e ↦
           let found : Some q ≡ Some r = sym (cond-true (nat_eq q.name k) (Some q) (row_at older k) (eq-eqb q.name k e)) ∙ is in
           let same : q ≡ r = cc in
@@ -49,7 +50,8 @@ rows_at (q ∷ older) k r made is = elim (cases_eq q.name k) as
           let next = rows_kept older q q.next made.0.fresh made.0.next_there in
           let here : rows (q ∷ older) (Row k) ≡ map (λ w. (q.at, q.marks) ∷ w) (rows (q ∷ older) q.child) ++ rows (q ∷ older) q.next =
           ap (λ n. rows (q ∷ older) (Row n)) (sym e) ∙ (rows_newest older q ∙ ap₂ (λ xs ys. map (λ (w : Word). (q.at, q.marks) ∷ w) xs ++ ys) (sym child) (sym next)) in
-          subst (λ (x : NamedRow). (rows (q ∷ older) (Row k) ≡ map (λ w. (x.at, x.marks) ∷ w) (rows (q ∷ older) x.child) ++ rows (q ∷ older) x.next) × IsThere (q ∷ older) x.child × IsThere (q ∷ older) x.next × (x.child ≡ Nothing → ⊥)) same
+          subst (λ (x : NamedRow). (rows (q ∷ older) (Row k) ≡ map (λ w. (x.at, x.marks) ∷ w) (rows (q ∷ older) x.child) ++ rows (q ∷ older) x.next) ×
+          IsThere (q ∷ older) x.child × IsThere (q ∷ older) x.next × (x.child ≡ Nothing → ⊥)) same
           (here, there_more older q q.child made.0.child_there, there_more older q q.next made.0.next_there, made.0.child_some)
       | inr ne ↦
           let further : row_at older k ≡ Some r = sym (cond-false (nat_eq q.name k) (Some q) (row_at older k) (ne_eqb q.name k ne)) ∙ is in

@@ -108,7 +108,8 @@ module _ (sources : Layer) (at k c : ℕ) (Then : Point → Type 0) (later : Lis
   makes_mid : (es : Edges) (m : Move) (rest : List Move) (s : Places) (made : List ℕ) (cells_mid : List NamedLink) (next_mid : Layer) (holds_mid : Holds) (now : ℕ) →
       IsMid es (m ∷ rest) s made cells_mid next_mid holds_mid now → (behind : List Action) →
       ((name : ℕ) → (HasCell cells_mid name → ⊥) →
-      Leads sources at Then behind (point (made ++ name ∷ []) (new_link name at m.marks c (cell_of next_mid m.to) ∷ cells_mid) (with_hold (less_hold holds_mid (cell_of next_mid m.to)) name 1) (now + 1))) →
+      Leads sources at Then behind (point (made ++ name ∷ []) (new_link name at m.marks c (cell_of next_mid m.to) ∷ cells_mid)
+      (with_hold (less_hold holds_mid (cell_of next_mid m.to)) name 1) (now + 1))) →
       Leads sources at Then (acts false k s m ++ behind) (point made cells_mid holds_mid now)
   makes_mid es m rest s made cells_mid next_mid holds_mid now mid behind go =
       let also : also_in sources made (slice_get s.held m.place) ≡ cell_of next_mid m.to = also_is sources made s.held next_mid m.place m.to mid.held mid.placed.0 in (
@@ -118,7 +119,8 @@ module _ (sources : Layer) (at k c : ℕ) (Then : Point → Type 0) (later : Lis
         also_there sources made s.held next_mid m.place mid.held,
         subst (λ (o : Option ℕ). IfSome o (λ a. (hold holds_mid a ≡ 1) × (a ≡ c → ⊥))) (sym also) (link_apart mid.can.4 m.to),
         λ name fresh.
-            subst (λ (o : Option ℕ). Leads sources at Then behind (point (made ++ name ∷ []) (new_link name at m.marks c o ∷ cells_mid) (with_hold (less_hold holds_mid o) name 1) (now + 1))) (sym also)
+            subst (λ (o : Option ℕ). Leads sources at Then behind
+            (point (made ++ name ∷ []) (new_link name at m.marks c o ∷ cells_mid) (with_hold (less_hold holds_mid o) name 1) (now + 1))) (sym also)
             (go name fresh),
       )
 
@@ -147,7 +149,8 @@ module _ (sources : Layer) (at k c : ℕ) (Then : Point → Type 0) (later : Lis
             let ended : HasEnded at c whole cells next holds cells_after (set_cell next_mid m.to name) (with_hold held c (hold held c - 1)) =
             subst (λ (w : Edges). HasEnded at c w cells next holds cells_after (set_cell next_mid m.to name) (with_hold held c (hold held c - 1))) (sym split)
             (made_ends at c es cells next holds cells_mid next_mid holds_mid mid.so_far ((0, m.to) ∷ []) cells_after (set_cell next_mid m.to name) (with_hold held c (hold held c - 1))
-            (joined_ends at c m.marks m.to name cells_mid link cells_after next_mid (set_cell next_mid m.to name) holds_mid held (with_hold held c (hold held c - 1)) marks fresh refl refl refl refl run taken)) in
+            (joined_ends at c m.marks m.to name cells_mid link cells_after next_mid (set_cell next_mid m.to name) holds_mid held
+            (with_hold held c (hold held c - 1)) marks fresh refl refl refl refl run taken)) in
             let many = ap length split ∙ length-append es ((0, m.to) ∷ []) in
             let more = mid.so_far.more in
             let counted = mid.counted in
@@ -157,7 +160,8 @@ module _ (sources : Layer) (at k c : ℕ) (Then : Point → Type 0) (later : Lis
             (record { made = suc (length es); few = omega arith; more = omega arith; bound = omega arith }) (omega arith)
             (sets_with next_mid m.to name ∙ mid.targets)
             (subst (λ (p : Places). AreHeld sources (made ++ name ∷ []) p.held (set_cell next_mid m.to name)) is
-            (held_put sources (made ++ name ∷ []) s.held next_mid m.place m.to name (Made s.made) (held_more sources made name s.held next_mid mid.held) mid.placed.0 (made_there made name s.made mid.count)))
+            (held_put sources (made ++ name ∷ []) s.held next_mid m.place m.to name (Made s.made)
+            (held_more sources made name s.held next_mid mid.held) mid.placed.0 (made_there made name s.made mid.count)))
             (let a = ap (λ (p : Places). p.made) is in let b = mid.count in let l = length-append made (name ∷ []) in omega arith),
       ))
 
@@ -174,14 +178,16 @@ module _ (sources : Layer) (at k c : ℕ) (Then : Point → Type 0) (later : Lis
       let more : HasMade at c (es ++ (m.marks, m.to) ∷ []) cells next holds link (set_cell next_mid m.to name) held =
       made_more at c es cells next holds cells_mid next_mid holds_mid mid.so_far m.marks m.to name link (set_cell next_mid m.to name) held some fresh refl refl refl in
       let one : HasMade at c ((m.marks, m.to) ∷ []) cells_mid next_mid holds_mid link (set_cell next_mid m.to name) held =
-      made_more at c [] cells_mid next_mid holds_mid cells_mid next_mid holds_mid (made_none at c cells_mid next_mid holds_mid) m.marks m.to name link (set_cell next_mid m.to name) held some fresh refl refl refl in
+      made_more at c [] cells_mid next_mid holds_mid cells_mid next_mid holds_mid (made_none at c cells_mid next_mid holds_mid) m.marks m.to name link
+      (set_cell next_mid m.to name) held some fresh refl refl refl in
       go (es ++ (m.marks, m.to) ∷ []) (moved false k s m) (made ++ name ∷ []) link (set_cell next_mid m.to name) held (now + 1) (record {
         split = mid.split ∙ sym (append_assoc es ((m.marks, m.to) ∷ []) (edges_in rest));
         so_far = more;
         can = can_now at c ((m.marks, m.to) ∷ []) cells_mid next_mid holds_mid link (set_cell next_mid m.to name) held one (edges_in rest) mid.can;
         placed = subst (λ (ss : List ℕ). ArePlaced ss rest) (sym (sets_with next_mid m.to name)) mid.placed.1;
         targets = ap (λ (ss : List ℕ). targets_from ss rest) (sets_with next_mid m.to name) ∙ mid.targets;
-        held = held_put sources (made ++ name ∷ []) s.held next_mid m.place m.to name (Made s.made) (held_more sources made name s.held next_mid mid.held) mid.placed.0 (made_there made name s.made mid.count);
+        held = held_put sources (made ++ name ∷ []) s.held next_mid m.place m.to name (Made s.made)
+            (held_more sources made name s.held next_mid mid.held) mid.placed.0 (made_there made name s.made mid.count);
         count = (let b = mid.count in let l = length-append made (name ∷ []) in omega arith);
         places = ap (λ (b : Bool). places_after k (moved b k s m) rest) (sym off_it) ∙ mid.places;
         counted = (let b = mid.counted in let l = length-append es ((m.marks, m.to) ∷ []) in omega arith);
@@ -193,11 +199,14 @@ module _ (sources : Layer) (at k c : ℕ) (Then : Point → Type 0) (later : Lis
       IsMid es_now rest t made_now cells_now next_now holds_now count → Leads sources at Then (actions_of k t rest ++ later) (point made_now cells_now holds_now count)) →
       (b : Bool) → hands_on s.held m ≡ b → Leads sources at Then (actions_of k s (m ∷ rest) ++ later) (point made cells_mid holds_mid now)
   move_leads es m rest s made cells_mid next_mid holds_mid now mid go true on_it =
-      subst (λ (b : Bool). Leads sources at Then (((acts b k s m ++ actions_after k (moved b k s m) rest) ++ release_of (b || keeps k (moved b k s m) rest) k) ++ later) (point made cells_mid holds_mid now)) (sym on_it)
+      subst (λ (b : Bool). Leads sources at Then
+      (((acts b k s m ++ actions_after k (moved b k s m) rest) ++ release_of (b || keeps k (moved b k s m) rest) k) ++ later) (point made cells_mid holds_mid now)) (sym on_it)
       (handed_mid es m rest s made cells_mid next_mid holds_mid now mid on_it)
   move_leads es m rest s made cells_mid next_mid holds_mid now mid go false off_it =
-      subst (λ (b : Bool). Leads sources at Then (((acts b k s m ++ actions_after k (moved b k s m) rest) ++ release_of (b || keeps k (moved b k s m) rest) k) ++ later) (point made cells_mid holds_mid now)) (sym off_it)
-      (elim (cases_eq m.marks 0) as (λ _. Leads sources at Then (((acts false k s m ++ actions_after k (moved false k s m) rest) ++ release_of (false || keeps k (moved false k s m) rest) k) ++ later) (point made cells_mid holds_mid now)) [
+      subst (λ (b : Bool). Leads sources at Then
+      (((acts b k s m ++ actions_after k (moved b k s m) rest) ++ release_of (b || keeps k (moved b k s m) rest) k) ++ later) (point made cells_mid holds_mid now)) (sym off_it)
+      (elim (cases_eq m.marks 0) as (λ _. Leads sources at Then
+      (((acts false k s m ++ actions_after k (moved false k s m) rest) ++ release_of (false || keeps k (moved false k s m) rest) k) ++ later) (point made cells_mid holds_mid now)) [
         | inl none ↦ joined_mid es m rest s made cells_mid next_mid holds_mid now mid off_it none
         | inr ne ↦ marked_mid es m rest s made cells_mid next_mid holds_mid now mid off_it (grind arith) go
       ])

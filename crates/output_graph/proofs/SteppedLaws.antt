@@ -51,7 +51,8 @@ choice_old c (e ∷ edges) done d h = choice_old c edges (record { cell = c; mar
 pub choice_new : (c : ℕ) (edges : Edges) (done : List Choice) (e : ℕ × ℕ) → Has edges e → Has (with_choices c edges done) (record { cell = c; marks = e.0; to = e.1 })
 choice_new c [] done e h = absurd h
 choice_new c (f ∷ edges) done e (inl is) =
-    choice_old c edges (record { cell = c; marks = f.0; to = f.1 } ∷ done) (record { cell = c; marks = e.0; to = e.1 }) (inl (ap (λ (x : ℕ × ℕ). let y : Choice = record { cell = c; marks = x.0; to = x.1 } in y) is))
+    choice_old c edges (record { cell = c; marks = f.0; to = f.1 } ∷ done) (record { cell = c; marks = e.0; to = e.1 })
+    (inl (ap (λ (x : ℕ × ℕ). let y : Choice = record { cell = c; marks = x.0; to = x.1 } in y) is))
 choice_new c (f ∷ edges) done e (inr h) = choice_new c edges (record { cell = c; marks = f.0; to = f.1 } ∷ done) e h
 
 module _ (S left after : List ℕ) (W : ℕ → List Word) (at c : ℕ) (edges : Edges) (done : List Choice) (cells cells_after : List NamedLink) (next next_after : Layer)
@@ -104,7 +105,8 @@ amid_of S left after W at c edges done cells next holds is among are distinct de
     }
 
 -- source k, the first that is left
-module _ (g : Graph) (holds : Holds) (sound : IsSound g holds) (p : ℕ × ℕ) (there : slice_get g.layer g.stepped ≡ Some p) (at : ℕ) (place : IsPlaceOf g at) (edges : Edges) (descend : Descend edges) where
+module _ (g : Graph) (holds : Holds) (sound : IsSound g holds) (p : ℕ × ℕ) (there : slice_get g.layer g.stepped ≡ Some p) (at : ℕ)
+    (place : IsPlaceOf g at) (edges : Edges) (descend : Descend edges) where
   abbrev c : ℕ
   c = p.1
 

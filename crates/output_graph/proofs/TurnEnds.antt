@@ -22,7 +22,8 @@ use Rattle.output_graph.proofs.LayerLaws.{IsLayer, next_is_layer, has_set_of}
 use Rattle.output_graph.proofs.SteppedLaws.{word_in, word_out}
 use Rattle.output_graph.proofs.RowLaws.{rows_nothing}
 
-pub none_left : (Accepted : Word → Type 0) (most : ℕ) (cells : List NamedLink) (heads : Entries) (store : List NamedRow) → cells ≡ [] → IsInTurn Accepted most cells heads store → AreListed Accepted most store Nothing
+pub none_left : (Accepted : Word → Type 0) (most : ℕ) (cells : List NamedLink) (heads : Entries) (store : List NamedRow) → cells ≡ [] →
+    IsInTurn Accepted most cells heads store → AreListed Accepted most store Nothing
 none_left Accepted most cells heads store is t = record {
   exact = λ w. (
     (λ h. absurd (subst (λ (xs : List Word). Has xs w) (rows_nothing store) h)),
@@ -50,7 +51,8 @@ listed_as P Q most store first same l = record {
   few = l.few;
 }
 
-turn_as : (P Q : Word → Type 0) (most : ℕ) (cells : List NamedLink) (heads : Entries) (store : List NamedRow) → ((w : Word) → P w ↔ Q w) → IsInTurn P most cells heads store → IsInTurn Q most cells heads store
+turn_as : (P Q : Word → Type 0) (most : ℕ) (cells : List NamedLink) (heads : Entries) (store : List NamedRow) → ((w : Word) → P w ↔ Q w) →
+    IsInTurn P most cells heads store → IsInTurn Q most cells heads store
 turn_as P Q most cells heads store same t = record {
   entries = t.entries;
   turned = record {
@@ -109,7 +111,8 @@ no_cells (l ∷ cells) holds live none = absurd (no_live holds (l ∷ cells) non
 got : (o : Option ℕ) (n m : ℕ) → o ≡ (if nat_eq n 0 then None else Some n) → n ≡ m → o ≡ (if nat_eq m 0 then None else Some m)
 got o n m is e = is ∙ ap (λ k. if nat_eq k 0 then None else Some k) e
 
-pub accepting_map : (holds : Holds) (accept : Option ℕ) → ((c : ℕ) → map.get holds c ≡ (if nat_eq (hold holds c) 0 then None else Some (hold holds c))) → IsAccepting holds accept → holds ≡ accepting accept
+pub accepting_map : (holds : Holds) (accept : Option ℕ) →
+    ((c : ℕ) → map.get holds c ≡ (if nat_eq (hold holds c) 0 then None else Some (hold holds c))) → IsAccepting holds accept → holds ≡ accepting accept
 accepting_map holds None proper is =
     map.same_map nat_cmp_total map.nat_cmp-IsAntisymmetric holds (accepting None) (λ q. got (map.get holds q) (hold holds q) 0 (proper q) (is q) ∙ sym (map.get-empty nat_cmp q))
 accepting_map holds (Some a) proper is =

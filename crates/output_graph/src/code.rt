@@ -64,7 +64,8 @@ pub(crate) fn code_of(alloc: Global, plan: &Plan) -> Result<Vec<Instruction>, Ou
 
 /// Whether the code does the actions of the plan that are left, and ends with what the plan holds.
 fn is_code(first: Symbols, code: &[Instruction], plan: &Plan) -> bool
-    ensures { IsTrue result → DoesAll first.registers.items first.made code.now (drop first.done plan.now.actions.items) plan.now.held.items }
+    ensures { IsTrue result → DoesAll first.registers.items first.made code.now (drop first.done plan.now.actions.items)
+        plan.now.held.items }
 {
     let mut symbols = first;
     for instruction in code {

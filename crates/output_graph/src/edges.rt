@@ -77,7 +77,8 @@ pub fn pass_on<L: Ledger>(
     requires spare { 1 ≤ arena.old.spare }
     requires room { 1 ≤ next.old.room }
     requires covered { target.set < next.old.known }
-    ensures ended { HasEnded origin.at origin.source ((0, target.set) ∷ []) arena.old.cells next.old.pairs arena.old.holds arena.new.cells next.new.pairs arena.new.holds }
+    ensures ended { HasEnded origin.at origin.source ((0, target.set) ∷ []) arena.old.cells next.old.pairs
+        arena.old.holds arena.new.cells next.new.pairs arena.new.holds }
     ensures spent { IsSpent 1 (length arena.old.cells) (length arena.new.cells) steps.old steps.new }
     ensures counted { steps.old ≤ steps.new }
     ensures next { (c : ℕ) × (next.new.pairs ≡ set_cell next.old.pairs target.set c) }
@@ -108,7 +109,8 @@ pub fn make_edges<L: Ledger>(
     requires spare { length edges.now ≤ arena.old.spare }
     requires room { length edges.now ≤ next.old.room }
     requires covered { (e : ℕ × ℕ) → Has (edges_of edges.now) e → e.1 < next.old.known }
-    ensures ended { HasEnded at source (edges_of edges.now) arena.old.cells next.old.pairs arena.old.holds arena.new.cells next.new.pairs arena.new.holds }
+    ensures ended { HasEnded at source (edges_of edges.now) arena.old.cells next.old.pairs arena.old.holds
+        arena.new.cells next.new.pairs arena.new.holds }
     ensures spent { IsSpent (length edges.now) (length arena.old.cells) (length arena.new.cells) steps.old steps.new }
     ensures counted { steps.old ≤ steps.new }
 {
@@ -139,7 +141,8 @@ pub fn make_ends<L: Ledger>(
     requires spare { length ends.now ≤ arena.old.spare }
     requires room { length ends.now ≤ next.old.room }
     requires covered { 0 < next.old.known }
-    ensures ended { HasEnded at source (edges_of_ends ends.now) arena.old.cells next.old.pairs arena.old.holds arena.new.cells next.new.pairs arena.new.holds }
+    ensures ended { HasEnded at source (edges_of_ends ends.now) arena.old.cells next.old.pairs arena.old.holds
+        arena.new.cells next.new.pairs arena.new.holds }
     ensures spent { IsSpent (length ends.now) (length arena.old.cells) (length arena.new.cells) steps.old steps.new }
     ensures counted { steps.old ≤ steps.new }
 {

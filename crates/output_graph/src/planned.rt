@@ -50,11 +50,14 @@ pub(crate) fn run_planned<L: Ledger>(
 )
     requires pooled { ArePooled pool.now }
     requires within { AreWithin (length pool.now.parts.items) planned.now }
-    requires may { MayRun (programs_in pool.now.parts.items) planned.now (graph_of arena.old.cells registers.old.sources.items [] 0 was) steps.old }
+    requires may { MayRun (programs_in pool.now.parts.items) planned.now
+        (graph_of arena.old.cells registers.old.sources.items [] 0 was) steps.old }
     requires sound { IsSound (graph_of arena.old.cells registers.old.sources.items [] 0 was) arena.old.holds }
     requires spare { codes_long pool.now.parts.items planned.now ≤ arena.old.spare }
     requires room { vec_len registers.old.sources + codes_long pool.now.parts.items planned.now ≤ vec_capacity registers.old.sources }
-    ensures run { AreRun (programs_in pool.now.parts.items) planned.now (graph_of arena.old.cells registers.old.sources.items [] 0 was) (graph_of arena.new.cells registers.new.sources.items [] 0 was) steps.old steps.new }
+    ensures run { AreRun (programs_in pool.now.parts.items) planned.now
+        (graph_of arena.old.cells registers.old.sources.items [] 0 was)
+        (graph_of arena.new.cells registers.new.sources.items [] 0 was) steps.old steps.new }
     ensures sound { IsSound (graph_of arena.new.cells registers.new.sources.items [] 0 was) arena.new.holds }
 {
     for one in planned {
@@ -80,10 +83,13 @@ fn run_lists<L: Ledger>(
     requires place { IsPlaceOf (graph_of arena.old.cells registers.old.sources.items [] 0 was) at }
     requires spare { length lists.code.now ≤ arena.old.spare }
     requires room { vec_len registers.old.sources + length lists.code.now ≤ vec_capacity registers.old.sources }
-    ensures run { IsRunBy (meaning_of lists.entry.plan.now.value) at (graph_of arena.old.cells registers.old.sources.items [] 0 was) (graph_of arena.new.cells registers.new.sources.items [] 0 was) steps.old steps.new }
+    ensures run { IsRunBy (meaning_of lists.entry.plan.now.value) at
+        (graph_of arena.old.cells registers.old.sources.items [] 0 was)
+        (graph_of arena.new.cells registers.new.sources.items [] 0 was) steps.old steps.new }
     ensures sound { IsSound (graph_of arena.new.cells registers.new.sources.items [] 0 was) arena.new.holds }
     ensures spare { arena.old.spare ≤ arena.new.spare + length lists.entry.code.now }
-    ensures room { vec_len registers.new.sources + vec_capacity registers.old.sources ≤ vec_len registers.old.sources + vec_capacity registers.new.sources + length lists.entry.code.now }
+    ensures room { vec_len registers.new.sources + vec_capacity registers.old.sources ≤ vec_len registers.old.sources +
+        vec_capacity registers.new.sources + length lists.entry.code.now }
 {
     let before = registers.len();
     run_code(arena, registers, at, was, lists, steps);

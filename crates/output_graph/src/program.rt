@@ -130,7 +130,8 @@ fn add_source(plan: &mut Plan, edges: &[Edge]) -> Result<(), OutOfMemory>
     requires plan { IsPlan plan.old }
     requires descend { Descend (edges_of edges.now) }
     ensures plan { OnOk result (IsPlan plan.new) }
-    ensures groups { OnOk result (cut plan.new.counts.items (edges_in plan.new.moves.items) ≡ cut plan.old.counts.items (edges_in plan.old.moves.items) ++ edges_of edges.now ∷ []) }
+    ensures groups { OnOk result (cut plan.new.counts.items (edges_in plan.new.moves.items) ≡ cut plan.old.counts.items
+        (edges_in plan.old.moves.items) ++ edges_of edges.now ∷ []) }
 {
     let source = small(plan.counts.len())?;
     let kept = add_edges(plan, source, edges)?;

@@ -91,7 +91,8 @@ impl Registers {
     pub(crate) fn put(&mut self, register: u32, cell: Cell)
         requires room { vec_len self.old.sources < vec_capacity self.old.sources }
         ensures sources { self.new.sources.items ≡ with_cell self.old.sources.items register cell }
-        ensures room { vec_len self.new.sources + vec_capacity self.old.sources ≤ vec_len self.old.sources + vec_capacity self.new.sources + 1 }
+        ensures room { vec_len self.new.sources + vec_capacity self.old.sources ≤ vec_len self.old.sources +
+            vec_capacity self.new.sources + 1 }
     {
         let place = register as usize;
         if place < self.sources.len() {
@@ -115,7 +116,8 @@ impl Registers {
         requires { length sets.now ≤ length self.old.sources.items }
         ensures cells { named sets.now self.new.sources.items ≡ named sets.now self.old.sources.items }
         ensures every { length sets.now ≡ length self.new.sources.items }
-        ensures names { (sets_of self.new.sources.items ≡ sets.now) ⊎ ((length sets.now ≤ before) × (sets_of self.new.sources.items ≡ take (length sets.now) (sets_of self.old.sources.items))) }
+        ensures names { (sets_of self.new.sources.items ≡ sets.now) ⊎
+            ((length sets.now ≤ before) × (sets_of self.new.sources.items ≡ take (length sets.now) (sets_of self.old.sources.items))) }
         ensures room { vec_len self.new.sources + vec_capacity self.old.sources ≤ vec_len self.old.sources + vec_capacity self.new.sources }
     {
         self.sources.truncate(sets.len());

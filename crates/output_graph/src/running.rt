@@ -36,14 +36,18 @@ pub(crate) fn run_code<L: Ledger>(
     steps: &mut Steps<L>,
 )
     requires lists { AreOfPlan lists }
-    requires leads { Leads registers.old.sources.items at (Runs (graph_of arena.old.cells registers.old.sources.items [] 0 was) at lists.plan.now.value steps.old) lists.plan.now.value.actions.items (point [] arena.old.cells arena.old.holds steps.old) }
+    requires leads { Leads registers.old.sources.items at
+        (Runs (graph_of arena.old.cells registers.old.sources.items [] 0 was) at lists.plan.now.value steps.old)
+        lists.plan.now.value.actions.items (point [] arena.old.cells arena.old.holds steps.old) }
     requires every { length lists.plan.now.value.counts.items ≡ length registers.old.sources.items }
     requires spare { length lists.code.now ≤ arena.old.spare }
     requires room { vec_len registers.old.sources + length lists.code.now ≤ vec_capacity registers.old.sources }
-    ensures run { HasCome (graph_of arena.old.cells registers.old.sources.items [] 0 was) at lists.entry.plan.now.value steps.old registers.new.sources.items arena.new.cells arena.new.holds steps.new }
+    ensures run { HasCome (graph_of arena.old.cells registers.old.sources.items [] 0 was) at lists.entry.plan.now.value
+        steps.old registers.new.sources.items arena.new.cells arena.new.holds steps.new }
     ensures names { take (length registers.old.sources.items) (sets_of registers.new.sources.items) ≡ sets_of registers.old.sources.items }
     ensures spare { arena.old.spare ≤ arena.new.spare + length lists.entry.code.now }
-    ensures room { vec_len registers.new.sources + vec_capacity registers.old.sources ≤ vec_len registers.old.sources + vec_capacity registers.new.sources + length lists.entry.code.now }
+    ensures room { vec_len registers.new.sources + vec_capacity registers.old.sources ≤ vec_len registers.old.sources +
+        vec_capacity registers.new.sources + length lists.entry.code.now }
     ensures counted { steps.old + lists.entry.sources ≤ steps.new }
 {
     let _was = was;

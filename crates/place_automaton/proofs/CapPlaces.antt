@@ -41,7 +41,8 @@ closing_at names k x dis at =
     let b = behind_at names k x dis at in
     ap (λ n. 2 ^ n) (let e : closing_bit (length names) k ≡ 2 * behind names x = omega (arith, b) in e) ∙ sym (closing_is names x (Has-slice_get names k x at))
 
-module _ (names : List VarName) (x : VarName) (f : Tree) (ok : IsSequential (cap x f)) (ord : HasOrderedRepeats f) (cl : HasClasses f) (vars : AreNamed names (cap x f)) (k : ℕ) (E : Sides) (is : E ≡ sides_of (places_of names f k)) where
+module _ (names : List VarName) (x : VarName) (f : Tree) (ok : IsSequential (cap x f)) (ord : HasOrderedRepeats f) (cl : HasClasses f)
+    (vars : AreNamed names (cap x f)) (k : ℕ) (E : Sides) (is : E ≡ sides_of (places_of names f k)) where
   abbrev o : ℕ
   o = opening_of names x
 

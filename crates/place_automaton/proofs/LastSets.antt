@@ -165,7 +165,8 @@ module _ (names : List VarName) where
         distinct = with_distinct c (P f k).last s.distinct;
         within = λ t h.
             let r = Has-map_cases (stop_with c) (P f k).last t h in
-            λ i b. elim (sum_within (VarBits names f) (HasBit c) r.0.marks c t.marks (λ i x y. ac i y x) (s.within r.0 r.1) (λ i b. b) (ap (λ (z : Stop). z.marks) r.2) i b) as (λ _. VarBits names (cap x f) i) [
+            λ i b. elim (sum_within (VarBits names f) (HasBit c) r.0.marks c t.marks (λ i x y. ac i y x) (s.within r.0 r.1) (λ i b. b)
+            (ap (λ (z : Stop). z.marks) r.2) i b) as (λ _. VarBits names (cap x f) i) [
               | inl y ↦ (y.0, inr y.1, y.2)
               | inr y ↦ (x, inl refl, inr y)
             ];

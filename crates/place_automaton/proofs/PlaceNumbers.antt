@@ -45,7 +45,8 @@ module _ (opening closing : VarName → ℕ) where
   turn_total (t ∷ ts) k = omega (arith, place_count t k, turn_total ts (k + (placed opening closing t k).count))
 
   -- the places of the parts so far and the next are no more than those of all
-  pub parts_room : (ts : List Tree) (i : ℕ) (t : Tree) → slice_get ts i ≡ Some t → (counts opening closing (cat_all (take i ts))).places + (counts opening closing t).places ≤ (counts opening closing (cat_all ts)).places
+  pub parts_room : (ts : List Tree) (i : ℕ) (t : Tree) → slice_get ts i ≡ Some t →
+      (counts opening closing (cat_all (take i ts))).places + (counts opening closing t).places ≤ (counts opening closing (cat_all ts)).places
   parts_room [] i t at = absurd (cc)
   parts_room (u ∷ ts) zero t at = let e : u ≡ t = cc in omega (arith, ap (λ (v : Tree). (counts opening closing v).places) e)
   parts_room (u ∷ ts) (suc i) t at = omega (arith, parts_room ts i t at)

@@ -195,7 +195,8 @@ fn captured(vars: &VarSet, name: &Name, numbers: Numbers) -> Numbers
     requires named { Has vars.now name.now }
     requires apart { JoinAsSum (opening_of vars.now name.now) (closing_of vars.now name.now) }
     requires marks { (m : ℕ) → Has numbers.null.items m → JoinAsSum (opening_of vars.now name.now + closing_of vars.now name.now) m }
-    ensures { (a : PlaceCounts) → AreCapped a numbers → AreCapped (counts_cap (opening_of vars.now name.now + closing_of vars.now name.now) a) result }
+    ensures { (a : PlaceCounts) → AreCapped a numbers →
+        AreCapped (counts_cap (opening_of vars.now name.now + closing_of vars.now name.now) a) result }
 {
     match vars.find(name) {
         Some(k) => {

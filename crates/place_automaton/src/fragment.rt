@@ -271,7 +271,8 @@ pub(crate) fn join_again(
     ways: &mut Vec<Way>,
 ) -> Result<Fragment, OutOfMemory>
     requires { (P : Sides) → Has fragments.items P → IsUnmarked P }
-    ensures sides { IfOk result (λ p. (front : List Sides) (last : Sides) → fragments.items ≡ front ++ last ∷ [] → p ≡ row_sides required front (again_sides required last)) }
+    ensures sides { IfOk result (λ p. (front : List Sides) (last : Sides) → fragments.items ≡ front ++ last ∷ [] →
+        p ≡ row_sides required front (again_sides required last)) }
     ensures ways { OnOk result ((front : List Sides) (last : Sides) → fragments.items ≡ front ++ last ∷ []
         → ways.new.items ≡ (ways.old.items ++ ways_between last.last last.first) ++ row_ways required front (again_sides required last)) }
 {

@@ -128,7 +128,8 @@ pub(crate) fn set_idle_unless(
     requires way { tied ≡ false → Has automaton.old.graph.ways (idle_way state) }
     ensures names { automaton.new.names ≡ automaton.old.names }
     ensures graph { HasGraphOf automaton.new.graph automaton.old.graph }
-    ensures ok { OnOk result ((p : ℕ) → Has automaton.new.graph.idle p ↔ (Has automaton.old.graph.idle p ⊎ Has (unless tied (state ∷ [])) p)) }
+    ensures ok { OnOk result ((p : ℕ) →
+        Has automaton.new.graph.idle p ↔ (Has automaton.old.graph.idle p ⊎ Has (unless tied (state ∷ [])) p)) }
 {
     if tied {
         return Ok(());

@@ -77,7 +77,8 @@ impl Draft {
         requires room { self.old.next + added.now.places ≤ MOST_STATES }
         requires order { added.now.from ≤ added.now.end }
         requires within { added.now.end ≤ length self.old.ways.items }
-        requires below { LieBelow (added.now.first + added.now.places) fragment.now (take (added.now.end - added.now.from) (drop added.now.from self.old.ways.items)) }
+        requires below { LieBelow (added.now.first + added.now.places) fragment.now
+            (take (added.now.end - added.now.from) (drop added.now.from self.old.ways.items)) }
         ensures { (P : Places) → fragment.now ≡ sides_of P → added.now.places ≡ P.count
             → take (added.now.end - added.now.from) (drop added.now.from self.old.ways.items) ≡ P.follow
             → IfOk result (HasPlaced (places_moved (self.old.next - added.now.first) P) self.old self.new) }

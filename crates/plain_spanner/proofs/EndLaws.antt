@@ -36,7 +36,8 @@ only_equal xs S H h = record {
 
 -- ---- one byte
 
-pub byte_there : (set : FinSet nat_cmp) (d : List ℕ) (i b : ℕ) (ends : List ℕ) → slice_get d i ≡ Some b → IsTrue (contains set b) → Tells (Has (ends ++ (i + 1) ∷ [])) (λ j. Has ends j ⊎ Fit (one set) d i j [])
+pub byte_there : (set : FinSet nat_cmp) (d : List ℕ) (i b : ℕ) (ends : List ℕ) → slice_get d i ≡ Some b → IsTrue (contains set b) →
+    Tells (Has (ends ++ (i + 1) ∷ [])) (λ j. Has ends j ⊎ Fit (one set) d i j [])
 byte_there set d i b ends at is = tells_pushed (λ j. Fit (one set) d i j []) ends (i + 1) (λ j f. sym f.3) (b, at, is, refl, refl)
 
 -- ---- the parts in turn
@@ -47,13 +48,17 @@ module _ (d : List ℕ) (ts : List Tree) (k : ℕ) (t : Tree) (at : slice_get ts
 
   pub turn_splits : HasNoVar (cat_all (take k ts)) → HasNoVar t → (i j : ℕ) → Fit (cat_all (take (k + 1) ts)) d i j [] → (n : ℕ) × Fit (cat_all (take k ts)) d i n [] × Fit t d n j []
   turn_splits firsts bare i j h =
-      let s = cat_more_split d ts k t i j [] at h in
-      (s.0, nothing_of (Fit (cat_all (take k ts)) d) i s.0 s.1 (λ i j m. fit_no_vars (cat_all (take k ts)) d i j m firsts) s.3, nothing_of (Fit t d) s.0 j s.2 (λ i j m. fit_no_vars t d i j m bare) s.4)
+      let s = cat_more_split d ts k t i j [] at h in (
+        s.0,
+        nothing_of (Fit (cat_all (take k ts)) d) i s.0 s.1 (λ i j m. fit_no_vars (cat_all (take k ts)) d i j m firsts) s.3,
+        nothing_of (Fit t d) s.0 j s.2 (λ i j m. fit_no_vars t d i j m bare) s.4,
+      )
 
   pub turn_joins : (i n j : ℕ) → Fit (cat_all (take k ts)) d i n [] → Fit t d n j [] → Fit (cat_all (take (k + 1) ts)) d i j []
   turn_joins i n j p q = cat_more_join d ts k t i j [] at (n, [], [], p, q, λ x a b. a, refl)
 
-pub turn_begins : (d : List ℕ) (ts : List Tree) (k : ℕ) → HasNoVar (cat_all ts) → (i j : ℕ) → Fit (cat_all ts) d i j [] → (n : ℕ) × Fit (cat_all (take k ts)) d i n [] × ((m : Captures) × Fit (cat_all (drop k ts)) d n j m)
+pub turn_begins : (d : List ℕ) (ts : List Tree) (k : ℕ) → HasNoVar (cat_all ts) → (i j : ℕ) → Fit (cat_all ts) d i j [] →
+    (n : ℕ) × Fit (cat_all (take k ts)) d i n [] × ((m : Captures) × Fit (cat_all (drop k ts)) d n j m)
 turn_begins d ts k bare i j h =
     let s = cat_begins d ts k i j [] h in
     (s.0, subst (λ n. Fit (cat_all (take k ts)) d i s.0 n) (front_nil s.1 s.2 s.6) s.3, (s.2, s.4))
@@ -64,7 +69,8 @@ turn_begins d ts k bare i j h =
 
 -- ---- the arms
 
-pub arms_done : (d : List ℕ) (ts : List Tree) (starts : List ℕ) (H : ℕ → Type 0) → Tells H (FromSome (λ (t : Tree) (j : ℕ). LeadsOn (Fit t d) starts j) ts) → Tells H (LeadsOn (Fit (alt_all ts) d) starts)
+pub arms_done : (d : List ℕ) (ts : List Tree) (starts : List ℕ) (H : ℕ → Type 0) →
+    Tells H (FromSome (λ (t : Tree) (j : ℕ). LeadsOn (Fit t d) starts j) ts) → Tells H (LeadsOn (Fit (alt_all ts) d) starts)
 arms_done d ts starts H h = record {
   each_so = λ j a. let f = h.each_so j a in (f.2.0, f.2.1, of_arm d ts f.0 f.2.0 j [] f.1 f.2.2);
   all_there = λ j a. let t = arm_of d ts a.0 j [] a.2 in h.all_there j (t.0, t.1, (a.0, a.1, t.2));
@@ -81,7 +87,8 @@ leads_nothing starts xs is = record {
 pub times_stay : (f : Tree) (d : List ℕ) (c i j : ℕ) → i ≤ length d → Times (Fit f d) c i j [] → j ≤ length d
 times_stay f d c i j le h = times_within (Fit f d) (length d) (λ i j m. fit_within f d i j m) c i j [] le h
 
-pub rounds_within : (f : Tree) (d starts reached : List ℕ) (least more : ℕ) → ((k : ℕ) → Has starts k → k ≤ length d) → Tells (Has reached) (LeadsIn (Fit f d) least more starts) → (k : ℕ) → Has reached k → k ≤ length d
+pub rounds_within : (f : Tree) (d starts reached : List ℕ) (least more : ℕ) → ((k : ℕ) → Has starts k → k ≤ length d) →
+    Tells (Has reached) (LeadsIn (Fit f d) least more starts) → (k : ℕ) → Has reached k → k ≤ length d
 rounds_within f d starts reached least more within all k h = let a = all.each_so k h in times_stay f d a.0 a.3.0 k (within a.3.0 a.3.1) a.3.2
 
 pub number_added : (ends : List ℕ) (j : ℕ) → Has ends j → Tells (Has ends) (λ k. Has ends k ⊎ (j ≡ k))

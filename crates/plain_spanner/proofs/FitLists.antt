@@ -105,7 +105,8 @@ pub turn_apart : (d : List ℕ) (ts : List Tree) (k : ℕ) (t : Tree) → slice_
     (i n j : ℕ) (m m' : Captures) → Fit (cat_all (take k ts)) d i n m → Fit t d n j m' → AreApart m m'
 turn_apart d ts k t at ok i n j m m' p q x a b = parts_apart ts k t at ok x (fit_only_vars (cat_all (take k ts)) d i n m p x a) (fit_only_vars t d n j m' q x b)
 
-pub arms_go_on : (d : List ℕ) (ts : List Tree) (A H : EndAndCaptures → Type 0) → Tells H (FromSome (λ (t : Tree) (f : EndAndCaptures). Continued A (Fit t d) f) ts) → Tells H (Continued A (Fit (alt_all ts) d))
+pub arms_go_on : (d : List ℕ) (ts : List Tree) (A H : EndAndCaptures → Type 0) →
+    Tells H (FromSome (λ (t : Tree) (f : EndAndCaptures). Continued A (Fit t d) f) ts) → Tells H (Continued A (Fit (alt_all ts) d))
 arms_go_on d ts A H all = record {
   each_so = λ f h. let s = all.each_so f h in let a = s.2 in (a.0, a.1, a.2, a.3, of_arm d ts s.0 a.0 f.0 a.2 s.1 a.4, a.5);
   all_there = λ f h. let t = arm_of d ts h.0 f.0 h.2 h.4 in all.all_there f (t.0, t.1, (h.0, h.1, h.2, h.3, t.2, h.5));
@@ -134,7 +135,8 @@ module _ (d : List ℕ) (f : Tree) where
   is_none : (least i j : ℕ) (m : Captures) → least ≡ 0 → Nothing i j m → Fit (rep f least (Some 1)) d i j m
   is_none least i j m none h = (0, omega arith, at_most_one 0 (omega arith), h)
 
-  pub goes_once : (least : ℕ) (A : EndAndCaptures → Type 0) (xs : List CapturesAndEnds) → least ≡ 1 → Tells (HasFit xs) (Continued A (Fit f d)) → Tells (HasFit xs) (Continued A (Fit (rep f least (Some 1)) d))
+  pub goes_once : (least : ℕ) (A : EndAndCaptures → Type 0) (xs : List CapturesAndEnds) → least ≡ 1 → Tells (HasFit xs) (Continued A (Fit f d)) →
+      Tells (HasFit xs) (Continued A (Fit (rep f least (Some 1)) d))
   goes_once least A xs one all = record {
     each_so = λ g h. let s = all.each_so g h in (s.0, s.1, s.2, s.3, is_once least s.0 g.0 s.2 (omega arith) s.4, s.5);
     all_there = λ g h. elim (once_is least h.0 g.0 h.2 h.4) as (λ _. HasFit xs g) [
@@ -169,7 +171,8 @@ branches_go_on P firsts H all = record {
 }
 
 -- a branch of a piece that captures nothing
-pub bare_branch : (P : Piece) (bare : (i j : ℕ) (m : Captures) → P i j m → m ≡ []) (b : CapturesAndEnds) (later : List ℕ) → Tells (Has later) (LeadsOn P b.1) → Tells (HasFit ((b.0, later) ∷ [])) (GoesFrom P b)
+pub bare_branch : (P : Piece) (bare : (i j : ℕ) (m : Captures) → P i j m → m ≡ []) (b : CapturesAndEnds) (later : List ℕ) →
+    Tells (Has later) (LeadsOn P b.1) → Tells (HasFit ((b.0, later) ∷ [])) (GoesFrom P b)
 bare_branch P bare b later all = record {
   each_so = λ f h.
       let o = of_branch b.0 later f h in
@@ -236,7 +239,8 @@ here_within place n le f h =
     omega arith
 
 -- fits from a place end behind it, and in the document
-pub inner_within : (g : Tree) (d : List ℕ) (place most : ℕ) (inner : List CapturesAndEnds) → place ≤ length d → length d ≤ most → Tells (HasFit inner) (Continued (HasFit (([], place ∷ []) ∷ [])) (Fit g d)) →
+pub inner_within : (g : Tree) (d : List ℕ) (place most : ℕ) (inner : List CapturesAndEnds) → place ≤ length d → length d ≤ most →
+    Tells (HasFit inner) (Continued (HasFit (([], place ∷ []) ∷ [])) (Fit g d)) →
     (f : EndAndCaptures) → HasFit inner f → (place ≤ f.0) × (f.0 ≤ most)
 inner_within g d place most inner le short all f h =
     let a = all.each_so f h in
@@ -246,5 +250,6 @@ inner_within g d place most inner le short all f h =
     let hi = fit_within g d a.0 f.0 a.2 (omega arith) a.4 in
     (omega arith, omega arith)
 
-pub named_tells : (x : VarName) (P : Piece) (m0 : Captures) (i : ℕ) (inner : List CapturesAndEnds) → Tells (HasFit inner) (Continued (HasFit (([], i ∷ []) ∷ [])) P) → Tells (FromSome (CapturedAt x i m0) inner) (CapturedFrom x P m0 i)
+pub named_tells : (x : VarName) (P : Piece) (m0 : Captures) (i : ℕ) (inner : List CapturesAndEnds) →
+    Tells (HasFit inner) (Continued (HasFit (([], i ∷ []) ∷ [])) P) → Tells (FromSome (CapturedAt x i m0) inner) (CapturedFrom x P m0 i)
 named_tells x P m0 i inner all = record { each_so = λ f h. (named_from x P m0 i inner all f).0 h; all_there = λ f h. (named_from x P m0 i inner all f).1 h }

@@ -28,7 +28,8 @@ use Rattle.plain_spanner.proofs.RowLaws.{row_eq_exact, mapping_of-row_of}
 
 -- a name more, where it is in the other set too
 pub shared_more : (left right shared grown : List VarName) (k : ℕ) (y : VarName) → slice_get left k ≡ Some y → Has right y →
-    ((x : VarName) → Has shared x ↔ (Has (take k left) x × Has right x)) → ((x : VarName) → Has grown x ↔ (Has shared x ⊎ (y ≡ x))) → (x : VarName) → Has grown x ↔ (Has (take (k + 1) left) x × Has right x)
+    ((x : VarName) → Has shared x ↔ (Has (take k left) x × Has right x)) → ((x : VarName) → Has grown x ↔ (Has shared x ⊎ (y ≡ x))) → (x : VarName) →
+    Has grown x ↔ (Has (take (k + 1) left) x × Has right x)
 shared_more left right shared grown k y at here so_far added x = (
   λ h. elim ((added x).0 h) as (λ _. Has (take (k + 1) left) x × Has right x) [
     | inl a ↦ (let b = (so_far x).0 a in (subst (λ (ns : List VarName). Has ns x) (sym (take_at_more left k y at)) (Has-append_left (take k left) (y ∷ []) x b.0), b.1))
@@ -87,9 +88,11 @@ both_right V n1 n2 x agree = by (has_name V x) refl
     by true e = agree (Has-list_any V x e)
     by false e = refl
 
-module _ (V W names : List VarName) (A B : Mapping → Type 0) (a_out : (m : Mapping) → A m → (x : VarName) → (Has V x → ⊥) → m x ≡ None) (b_out : (m : Mapping) → B m → (x : VarName) → (Has W x → ⊥) → m x ≡ None)
+module _ (V W names : List VarName) (A B : Mapping → Type 0) (a_out : (m : Mapping) → A m → (x : VarName) → (Has V x → ⊥) → m x ≡ None)
+    (b_out : (m : Mapping) → B m → (x : VarName) → (Has W x → ⊥) → m x ≡ None)
     (named : Adds V (Has W) names) where
-  pub join_listed : (lefts rights : List SpanRow) (H : SpanRow → Type 0) → Tells (Has lefts) (IsRowOf A V) → Tells (Has rights) (IsRowOf B W) → Tells H (IsJoined names V W lefts rights) → Tells H (IsRowOf (JoinOf V A W B) names)
+  pub join_listed : (lefts rights : List SpanRow) (H : SpanRow → Type 0) → Tells (Has lefts) (IsRowOf A V) → Tells (Has rights) (IsRowOf B W) →
+      Tells H (IsJoined names V W lefts rights) → Tells H (IsRowOf (JoinOf V A W B) names)
   join_listed lefts rights H left right all = record {
     each_so = λ r h.
         let j = all.each_so r h in
@@ -194,7 +197,8 @@ merged_outside V W a b x out = by (has_name V x) refl
     by true h = absurd (out (Has-list_any V x h))
     by false h = refl
 
-pub joined_once : (names V W : List VarName) (a : SpanRow) (rights : List SpanRow) (p : ℕ) (b r : SpanRow) → slice_get rights p ≡ Some b → JoinsWith names V W a rights p r → row_of names (merged V W a b) ≡ r
+pub joined_once : (names V W : List VarName) (a : SpanRow) (rights : List SpanRow) (p : ℕ) (b r : SpanRow) → slice_get rights p ≡ Some b →
+    JoinsWith names V W a rights p r → row_of names (merged V W a b) ≡ r
 joined_once names V W a rights p b r at h =
     let same : b ≡ h.0 = some_row b h.0 (sym at ∙ h.1) in
     ap (λ (x : SpanRow). row_of names (merged V W a x)) same ∙ sym h.2
@@ -250,7 +254,8 @@ module _ {X : Type 0} (items : X → List ℕ) where
       place_by (is_eq (row_cmp key q)) key q place p old_key old_q mid_q new_q after start (key_is key q) (key_tied key q) same mid new none grown
 
 -- one row more whose place is kept under its key
-pub places_of_more : (names key_names : List VarName) (rows : List SpanRow) (k : ℕ) (row key : SpanRow) (Old New : SpanRow → ℕ → Type 0) → slice_get rows k ≡ Some row → key ≡ row_over names key_names row →
+pub places_of_more : (names key_names : List VarName) (rows : List SpanRow) (k : ℕ) (row key : SpanRow) (Old New : SpanRow → ℕ → Type 0) →
+    slice_get rows k ≡ Some row → key ≡ row_over names key_names row →
     ((q : SpanRow) (p : ℕ) → Old q p ↔ ((p < k) × HasKeyAt names key_names rows q p)) → ((q : SpanRow) (p : ℕ) → New q p ↔ (Old q p ⊎ ((key ≡ q) × (k ≡ p)))) →
     (q : SpanRow) (p : ℕ) → New q p ↔ ((p < k + 1) × HasKeyAt names key_names rows q p)
 places_of_more names key_names rows k row key Old New at is old new q p = (

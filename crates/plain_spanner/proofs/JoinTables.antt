@@ -81,7 +81,8 @@ module _ (q : QueryTree) (d : List ℕ) (n : ℕ) where
   restricted P Q m r same h x = (λ v. (h x).0 ((same x).1 v), λ out. (h x).1 (λ p. out ((same x).0 p)))
 
   -- the union of the parts so far with one more
-  module _ (es : List ExprTree) (e : ExprTree) (left right : List VarName) (left_named : (x : VarName) → Has left x ↔ VarOf V (union_all es) x) (right_named : (x : VarName) → Has right x ↔ VarOf V e x) where
+  module _ (es : List ExprTree) (e : ExprTree) (left right : List VarName) (left_named : (x : VarName) → Has left x ↔ VarOf V (union_all es) x)
+      (right_named : (x : VarName) → Has right x ↔ VarOf V e x) where
     some_vars_more : (x : VarName) → VarOf V (union_all (es ++ e ∷ [])) x ↔ (VarOf V (union_all es) x ⊎ VarOf V e x)
     some_vars_more x =
         let more = in_more (VarOf V) (λ gs. VarOf V (join_all gs)) (exprs_in_turn V) es e x in (
@@ -106,7 +107,8 @@ module _ (q : QueryTree) (d : List ℕ) (n : ℕ) where
           ]
         ]
 
-    pub union_more : (names : List VarName) (lefts rights rows : List SpanRow) → IsTableOf q d n (union_all es) left lefts → IsTableOf q d n e right rights → Ascending names → Adds left (Has right) names →
+    pub union_more : (names : List VarName) (lefts rights rows : List SpanRow) → IsTableOf q d n (union_all es) left lefts →
+        IsTableOf q d n e right rights → Ascending names → Adds left (Has right) names →
         Tells (Has rows) (IsUnited names left right lefts rights) → IsTableOf q d n (union_all (es ++ e ∷ [])) names rows
     union_more names lefts rights rows t u up named all =
         let B = Answer V A d (union_all es) in
@@ -118,11 +120,13 @@ module _ (q : QueryTree) (d : List ℕ) (n : ℕ) where
             λ h. (some_vars_more x).1 (elim ((named x).0 h) as (λ _. VarOf V (union_all es) x ⊎ VarOf V e x) [ inl a ↦ inl ((left_named x).0 a) | inr b ↦ inr ((right_named x).0 b) ]),
             λ v. (named x).1 (elim ((some_vars_more x).0 v) as (λ _. Has left x ⊎ Has right x) [ inl a ↦ inl ((left_named x).1 a) | inr b ↦ inr ((right_named x).1 b) ]),
           );
-          listed = tells_same (Has rows) (IsRowOf (λ m. B m ⊎ C m) names) (IsRowOf (Answer V A d (union_all (es ++ e ∷ []))) names) (λ r h. (h.0, to_some h.0 h.1, h.2)) (λ r h. (h.0, of_some h.0 h.1, h.2)) listed;
+          listed = tells_same (Has rows) (IsRowOf (λ m. B m ⊎ C m) names) (IsRowOf (Answer V A d (union_all (es ++ e ∷ []))) names)
+              (λ r h. (h.0, to_some h.0 h.1, h.2)) (λ r h. (h.0, of_some h.0 h.1, h.2)) listed;
         }
 
   -- the join of the parts so far with one more
-  module _ (es : List ExprTree) (e : ExprTree) (left right : List VarName) (left_named : (x : VarName) → Has left x ↔ VarOf V (join_all es) x) (right_named : (x : VarName) → Has right x ↔ VarOf V e x) where
+  module _ (es : List ExprTree) (e : ExprTree) (left right : List VarName) (left_named : (x : VarName) → Has left x ↔ VarOf V (join_all es) x)
+      (right_named : (x : VarName) → Has right x ↔ VarOf V e x) where
     vars_more : (x : VarName) → VarOf V (join_all (es ++ e ∷ [])) x ↔ (VarOf V (join_all es) x ⊎ VarOf V e x)
     vars_more x = in_more (VarOf V) (λ gs. VarOf V (join_all gs)) (exprs_in_turn V) es e x
 
@@ -162,11 +166,13 @@ module _ (q : QueryTree) (d : List ℕ) (n : ℕ) where
           λ x out. join_outside V A d gs m h x (λ v. out (elim ((vars_more x).0 v) as (λ _. Has left x ⊎ Has right x) [ inl a ↦ inl ((left_named x).1 a) | inr b ↦ inr ((right_named x).1 b) ])),
         )
 
-    pub join_more : (names : List VarName) (lefts rights rows : List SpanRow) → IsTableOf q d n (join_all es) left lefts → IsTableOf q d n e right rights → Ascending names → Adds left (Has right) names →
+    pub join_more : (names : List VarName) (lefts rights rows : List SpanRow) → IsTableOf q d n (join_all es) left lefts →
+        IsTableOf q d n e right rights → Ascending names → Adds left (Has right) names →
         Tells (Has rows) (IsJoined names left right lefts rights) → IsTableOf q d n (join_all (es ++ e ∷ [])) names rows
     join_more names lefts rights rows t u up named all =
         let J = JoinOf left (Answer V A d (join_all es)) right (Answer V A d e) in
-        let listed = join_listed left right names (Answer V A d (join_all es)) (Answer V A d e) (out_of (join_all es) left left_named) (out_of e right right_named) named lefts rights (Has rows) t.listed u.listed all in
+        let listed = join_listed left right names (Answer V A d (join_all es)) (Answer V A d e) (out_of (join_all es) left left_named)
+        (out_of e right right_named) named lefts rights (Has rows) t.listed u.listed all in
         record {
           ascending = up;
           named = λ x. (
@@ -180,25 +186,30 @@ pub union_next : (q : QueryTree) (d : List ℕ) (n : ℕ) (es : List ExprTree) (
     IsTableOf q d n (union_all (take k es)) left lefts → IsTableOf q d n e right rights → Ascending names → Adds left (Has right) names → Tells (Has rows) (IsUnited names left right lefts rights) →
     IsTableOf q d n (union_all (take (k + 1) es)) names rows
 union_next q d n es k e left right names lefts rights rows at t u up named all =
-    subst (λ (gs : List ExprTree). IsTableOf q d n (union_all gs) names rows) (sym (take_at_more es k e at)) (union_more q d n (take k es) e left right t.named u.named names lefts rights rows t u up named all)
+    subst (λ (gs : List ExprTree). IsTableOf q d n (union_all gs) names rows) (sym (take_at_more es k e at))
+    (union_more q d n (take k es) e left right t.named u.named names lefts rights rows t u up named all)
 
 pub join_next : (q : QueryTree) (d : List ℕ) (n : ℕ) (es : List ExprTree) (k : ℕ) (e : ExprTree) (left right names : List VarName) (lefts rights rows : List SpanRow) → slice_get es k ≡ Some e →
     IsTableOf q d n (join_all (take k es)) left lefts → IsTableOf q d n e right rights → Ascending names → Adds left (Has right) names → Tells (Has rows) (IsJoined names left right lefts rights) →
     IsTableOf q d n (join_all (take (k + 1) es)) names rows
 join_next q d n es k e left right names lefts rights rows at t u up named all =
-    subst (λ (gs : List ExprTree). IsTableOf q d n (join_all gs) names rows) (sym (take_at_more es k e at)) (join_more q d n (take k es) e left right t.named u.named names lefts rights rows t u up named all)
+    subst (λ (gs : List ExprTree). IsTableOf q d n (join_all gs) names rows) (sym (take_at_more es k e at))
+    (join_more q d n (take k es) e left right t.named u.named names lefts rights rows t u up named all)
 
 -- ---- lets
 
-other : (b : Bool) (Q W : VarName → Type 0) (B C : Mapping → Type 0) (names : List VarName) (rows : List SpanRow) → b ≡ false → IsTable W C names rows → IsTable (λ x. MatchBool b (Q x) (W x)) (λ m. MatchBool b (B m) (C m)) names rows
+other : (b : Bool) (Q W : VarName → Type 0) (B C : Mapping → Type 0) (names : List VarName) (rows : List SpanRow) → b ≡ false →
+    IsTable W C names rows → IsTable (λ x. MatchBool b (Q x) (W x)) (λ m. MatchBool b (B m) (C m)) names rows
 other true Q W B C names rows e t = absurd (false≢true (sym e))
 other false Q W B C names rows e t = t
 
-this : (b : Bool) (Q W : VarName → Type 0) (B C : Mapping → Type 0) (names : List VarName) (rows : List SpanRow) → b ≡ true → IsTable Q B names rows → IsTable (λ x. MatchBool b (Q x) (W x)) (λ m. MatchBool b (B m) (C m)) names rows
+this : (b : Bool) (Q W : VarName → Type 0) (B C : Mapping → Type 0) (names : List VarName) (rows : List SpanRow) → b ≡ true → IsTable Q B names rows →
+    IsTable (λ x. MatchBool b (Q x) (W x)) (λ m. MatchBool b (B m) (C m)) names rows
 this true Q W B C names rows e t = t
 this false Q W B C names rows e t = absurd (false≢true e)
 
-there : (o : Option (VarName × ExprTree)) (l : VarName × ExprTree) (W : ExprTree → VarName → Type 0) (C : ExprTree → Mapping → Type 0) (names : List VarName) (rows : List SpanRow) → o ≡ Some l → IsTable (W l.1) (C l.1) names rows →
+there : (o : Option (VarName × ExprTree)) (l : VarName × ExprTree) (W : ExprTree → VarName → Type 0) (C : ExprTree → Mapping →
+    Type 0) (names : List VarName) (rows : List SpanRow) → o ≡ Some l → IsTable (W l.1) (C l.1) names rows →
     IsTable (λ x. IsSomeAnd o (λ l. W l.1 x)) (λ m. IsSomeAnd o (λ l. C l.1 m)) names rows
 there o l W C names rows e t = subst (λ (p : Option (VarName × ExprTree)). IsTable (λ x. IsSomeAnd p (λ l. W l.1 x)) (λ m. IsSomeAnd p (λ l. C l.1 m)) names rows) (sym e) t
 
@@ -214,7 +225,8 @@ tables_none q d tables none k t at = absurd (no_place k t (ap (λ (ts : List Tab
     no_place : (k : ℕ) (t : Table) → slice_get [] k ≡ Some t → ⊥
     no_place k t e = cc
 
-pub tables_more : (q : QueryTree) (d : List ℕ) (tables grown : List Table) (l : VarName × ExprTree) (t : Table) → slice_get q.lets (length tables) ≡ Some l → AreTables q d tables → IsTableOf q d (length tables) l.1 t.names t.rows.items → grown ≡ tables ++ t ∷ [] → AreTables q d grown
+pub tables_more : (q : QueryTree) (d : List ℕ) (tables grown : List Table) (l : VarName × ExprTree) (t : Table) →
+    slice_get q.lets (length tables) ≡ Some l → AreTables q d tables → IsTableOf q d (length tables) l.1 t.names t.rows.items → grown ≡ tables ++ t ∷ [] → AreTables q d grown
 tables_more q d tables grown l t at known one is j u place =
     let n = length tables in
     let long : length grown ≡ suc n = ap length is ∙ omega (arith, length-append tables (t ∷ [])) in

@@ -57,12 +57,14 @@ module _ (d : List ℕ) where
   part_one t i j m h = (j, m, [], h, (refl, refl), λ x a b. b, sym (append-nil m))
 
   -- the parts so far, and one more
-  pub cat_more_split : (ts : List Tree) (k : ℕ) (t : Tree) (i j : ℕ) (m : Captures) → slice_get ts k ≡ Some t → Fit (cat_all (take (k + 1) ts)) d i j m → Then (Fit (cat_all (take k ts)) d) (Fit t d) i j m
+  pub cat_more_split : (ts : List Tree) (k : ℕ) (t : Tree) (i j : ℕ) (m : Captures) → slice_get ts k ≡ Some t →
+      Fit (cat_all (take (k + 1) ts)) d i j m → Then (Fit (cat_all (take k ts)) d) (Fit t d) i j m
   cat_more_split ts k t i j m at h =
       let s = cat_split (take k ts) (t ∷ []) i j m (subst (λ us. Fit (cat_all us) d i j m) (take_at_more ts k t at) h) in
       (s.0, s.1, s.2, s.3, one_part t s.0 j s.2 s.4, s.5, s.6)
 
-  pub cat_more_join : (ts : List Tree) (k : ℕ) (t : Tree) (i j : ℕ) (m : Captures) → slice_get ts k ≡ Some t → Then (Fit (cat_all (take k ts)) d) (Fit t d) i j m → Fit (cat_all (take (k + 1) ts)) d i j m
+  pub cat_more_join : (ts : List Tree) (k : ℕ) (t : Tree) (i j : ℕ) (m : Captures) → slice_get ts k ≡ Some t →
+      Then (Fit (cat_all (take k ts)) d) (Fit t d) i j m → Fit (cat_all (take (k + 1) ts)) d i j m
   cat_more_join ts k t i j m at h =
       subst (λ us. Fit (cat_all us) d i j m) (sym (take_at_more ts k t at)) (cat_join (take k ts) (t ∷ []) i j m (h.0, h.1, h.2, h.3, part_one t h.0 j h.2 h.4, h.5, h.6))
 

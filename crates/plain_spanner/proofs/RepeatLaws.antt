@@ -141,7 +141,8 @@ module _ (P : Piece) (bare : (i j : ℕ) (m : Captures) → P i j m → m ≡ []
   pub closed_none : (reached : List ℕ) → Closed P 0 reached
   closed_none reached j h = absurd h.1
 
-  pub closed_more : (done : ℕ) (reached next grown : List ℕ) → Closed P done reached → IsPrefixOf reached grown → Tells (Has next) (LeadsOn P (drop done reached)) → Tells (Has grown) (λ j. Has reached j ⊎ Has next j) →
+  pub closed_more : (done : ℕ) (reached next grown : List ℕ) → Closed P done reached → IsPrefixOf reached grown →
+      Tells (Has next) (LeadsOn P (drop done reached)) → Tells (Has grown) (λ j. Has reached j ⊎ Has next j) →
       Closed P (length reached) grown
   closed_more done reached next grown closed begins on all j h =
       let whole = subst (λ ys. Has ys h.0) (take_begins reached grown begins) h.1 in
@@ -151,7 +152,8 @@ module _ (P : Piece) (bare : (i j : ℕ) (m : Captures) → P i j m → m ≡ []
         | inr a ↦ all.all_there j (inr (on.all_there j (h.0, a, h.2)))
       ]
 
-  pub rounds_more : (c done : ℕ) (reached next grown : List ℕ) → Tells (Has reached) (LeadsIn P 0 c starts) → Closed P done reached → IsPrefixOf reached grown → Tells (Has next) (LeadsOn P (drop done reached)) →
+  pub rounds_more : (c done : ℕ) (reached next grown : List ℕ) → Tells (Has reached) (LeadsIn P 0 c starts) → Closed P done reached →
+      IsPrefixOf reached grown → Tells (Has next) (LeadsOn P (drop done reached)) →
       Tells (Has grown) (λ j. Has reached j ⊎ Has next j) → Tells (Has grown) (LeadsIn P 0 (c + 1) starts)
   rounds_more c done reached next grown so_far closed begins on all = record {
     each_so = λ j h. elim (all.each_so j h) as (λ _. LeadsIn P 0 (c + 1) starts j) [
@@ -177,7 +179,8 @@ module _ (P : Piece) (bare : (i j : ℕ) (m : Captures) → P i j m → m ≡ []
           closed_more done reached next grown closed begins on all j (u.0, k', u.2)
 
   -- where each end was gone on from, more rounds lead to no other
-  pub rounds_done : (c most done : ℕ) (reached : List ℕ) → c ≤ most → done ≡ length reached → Tells (Has reached) (LeadsIn P 0 c starts) → Closed P done reached → Tells (Has reached) (LeadsIn P 0 most starts)
+  pub rounds_done : (c most done : ℕ) (reached : List ℕ) → c ≤ most → done ≡ length reached → Tells (Has reached) (LeadsIn P 0 c starts) →
+      Closed P done reached → Tells (Has reached) (LeadsIn P 0 most starts)
   rounds_done c most done reached le is so_far closed = record {
     each_so = λ j h. let r = so_far.each_so j h in let hi = r.2 in (r.0, omega arith, omega arith, r.3);
     all_there = λ j h. there j h.0 h.3.0 h.3.1 h.3.2;

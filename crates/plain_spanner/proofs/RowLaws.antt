@@ -112,7 +112,8 @@ module _ (to_end : Bool) (f : Tree) (d : List ℕ) (names : List VarName) where
 
 -- ---- rows that grow by spans
 
-pub row_pushed : (names : List VarName) (k : ℕ) (y : VarName) (m : Mapping) (row new : SpanRow) (s : Option Span) → slice_get names k ≡ Some y → row ≡ row_of (take k names) m → s ≡ m y → new ≡ row ++ s ∷ [] →
+pub row_pushed : (names : List VarName) (k : ℕ) (y : VarName) (m : Mapping) (row new : SpanRow) (s : Option Span) → slice_get names k ≡ Some y →
+    row ≡ row_of (take k names) m → s ≡ m y → new ≡ row ++ s ∷ [] →
     new ≡ row_of (take (k + 1) names) m
 row_pushed names k y m row new s at so_far is grown = grown ∙ ap (λ (r : SpanRow). r ++ s ∷ []) so_far ∙ ap (λ (o : Option Span). row_of (take k names) m ++ o ∷ []) is ∙ sym (row_more names k y m at)
 

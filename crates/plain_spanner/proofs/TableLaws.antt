@@ -22,10 +22,20 @@ use Rattle.plain_spanner.proofs.RowLaws.{mapping_of-row_of, row_over-row_of}
 -- ---- what is asked
 
 pub asked_united : (q : QueryTree) (n : ℕ) (es : List ExprTree) (e : ExprTree) → Has es e → IsAsked q n (union_all es) → IsAsked q n e
-asked_united q n es e has a = record { sound = a.sound; sound_expr = union_part (vars_of_lets q.lets n) (sure_of_lets q.lets n) n es e a.sound_expr has; named = λ x h. a.named x (union_named es e x has h) }
+asked_united q n es e has a = record {
+  sound = a.sound;
+  sound_expr = union_part (vars_of_lets q.lets n) (sure_of_lets q.lets n) n es e a.sound_expr
+      has;
+  named = λ x h. a.named x (union_named es e x has h);
+}
 
 pub asked_joined : (q : QueryTree) (n : ℕ) (es : List ExprTree) (e : ExprTree) → Has es e → IsAsked q n (join_all es) → IsAsked q n e
-asked_joined q n es e has a = record { sound = a.sound; sound_expr = join_part (vars_of_lets q.lets n) (sure_of_lets q.lets n) n es e a.sound_expr has; named = λ x h. a.named x (join_named es e x has h) }
+asked_joined q n es e has a = record {
+  sound = a.sound;
+  sound_expr = join_part (vars_of_lets q.lets n) (sure_of_lets q.lets n) n es e a.sound_expr
+      has;
+  named = λ x h. a.named x (join_named es e x has h);
+}
 
 pub asked_sub : (q : QueryTree) (n : ℕ) (names : List VarName) (e : ExprTree) → IsAsked q n (project names e) → IsAsked q n e
 asked_sub q n names e a = record { sound = a.sound; sound_expr = a.sound_expr.0; named = a.named }
@@ -33,7 +43,8 @@ asked_sub q n names e a = record { sound = a.sound; sound_expr = a.sound_expr.0;
 -- the variables of what is asked are names of the query
 pub asked_var : (q : QueryTree) (n : ℕ) (e : ExprTree) (x : VarName) → IsAsked q n e → VarOf (vars_of_lets q.lets n) e x → NameOf q x
 asked_var q n e x a v =
-    elim (var_named (vars_of_lets q.lets n) (sure_of_lets q.lets n) (λ y. NameOf q y) (λ k y h. inl (lets_named q.lets a.sound.sound_lets n k y h)) n e x a.sound_expr v) as (λ _. NameOf q x) [ inl b ↦ a.named x b | inr b ↦ b ]
+    elim (var_named (vars_of_lets q.lets n) (sure_of_lets q.lets n) (λ y. NameOf q y) (λ k y h. inl (lets_named q.lets a.sound.sound_lets n k y h)) n
+    e x a.sound_expr v) as (λ _. NameOf q x) [ inl b ↦ a.named x b | inr b ↦ b ]
 
 pub room_of : (q : QueryTree) (P : VarName → Type 0) (old : List VarName) → IsSound q → ((x : VarName) → Has old x → NameOf q x) → ((x : VarName) → P x → NameOf q x) → HaveRoom old P
 room_of q P old s a b = (s.few.0, s.few.1, λ x h. s.few.2 x (elim h as (λ _. NameOf q x) [ inl o ↦ a x o | inr p ↦ b x p ]))
@@ -102,8 +113,10 @@ widened V names m out = row_same names (mapping_of V (row_of V m)) m (λ x. by x
         let no = λ (h : Has V x). false≢true (sym e ∙ list_any-Has V x h) in mapping_of-outside V (row_of V m) x no ∙ sym (out x no)
 
 -- the rows of the mappings of which A or B is true
-module _ (V W names : List VarName) (A B : Mapping → Type 0) (a_out : (m : Mapping) → A m → (x : VarName) → (Has V x → ⊥) → m x ≡ None) (b_out : (m : Mapping) → B m → (x : VarName) → (Has W x → ⊥) → m x ≡ None) where
-  pub union_listed : (lefts rights : List SpanRow) (H : SpanRow → Type 0) → Tells (Has lefts) (IsRowOf A V) → Tells (Has rights) (IsRowOf B W) → Tells H (IsUnited names V W lefts rights) → Tells H (IsRowOf (λ m. A m ⊎ B m) names)
+module _ (V W names : List VarName) (A B : Mapping → Type 0) (a_out : (m : Mapping) → A m → (x : VarName) → (Has V x → ⊥) → m x ≡ None)
+    (b_out : (m : Mapping) → B m → (x : VarName) → (Has W x → ⊥) → m x ≡ None) where
+  pub union_listed : (lefts rights : List SpanRow) (H : SpanRow → Type 0) → Tells (Has lefts) (IsRowOf A V) → Tells (Has rights) (IsRowOf B W) →
+      Tells H (IsUnited names V W lefts rights) → Tells H (IsRowOf (λ m. A m ⊎ B m) names)
   union_listed lefts rights H left right all = record {
     each_so = λ r h. elim (all.each_so r h) as (λ _. IsRowOf (λ m. A m ⊎ B m) names r) [
       | inl a ↦ (let s = left.each_so a.0 a.1 in (s.0, inl s.1, a.2 ∙ ap (λ (l : SpanRow). row_over V names l) s.2 ∙ widened V names s.0 (a_out s.0 s.1)))
@@ -118,7 +131,8 @@ module _ (V W names : List VarName) (A B : Mapping → Type 0) (a_out : (m : Map
 -- ---- differences
 
 -- the rows of the mappings of which A is true and B is not
-module _ (names : List VarName) (A B : Mapping → Type 0) (a_out : (m : Mapping) → A m → (x : VarName) → (Has names x → ⊥) → m x ≡ None) (b_out : (m : Mapping) → B m → (x : VarName) → (Has names x → ⊥) → m x ≡ None) where
+module _ (names : List VarName) (A B : Mapping → Type 0) (a_out : (m : Mapping) → A m → (x : VarName) → (Has names x → ⊥) → m x ≡ None)
+    (b_out : (m : Mapping) → B m → (x : VarName) → (Has names x → ⊥) → m x ≡ None) where
   told : (m : Mapping) → ((x : VarName) → (Has names x → ⊥) → m x ≡ None) → (x : VarName) → mapping_of names (row_of names m) x ≡ m x
   told m out x = by (has_name names x) refl
     where
@@ -133,7 +147,8 @@ module _ (names : List VarName) (A B : Mapping → Type 0) (a_out : (m : Mapping
       path : (x : VarName) → n x ≡ m x
       path x = sym (told n (b_out n b) x) ∙ (ap (λ (r : SpanRow). mapping_of names r x) (sym e) ∙ told m (a_out m a) x)
 
-  pub left_listed : (lefts rights : List SpanRow) (H : SpanRow → Type 0) → Tells (Has lefts) (IsRowOf A names) → Tells (Has rights) (IsRowOf B names) → Tells H (IsLeft lefts rights) → Tells H (IsRowOf (λ m. A m × ¬ B m) names)
+  pub left_listed : (lefts rights : List SpanRow) (H : SpanRow → Type 0) → Tells (Has lefts) (IsRowOf A names) →
+      Tells (Has rights) (IsRowOf B names) → Tells H (IsLeft lefts rights) → Tells H (IsRowOf (λ m. A m × ¬ B m) names)
   left_listed lefts rights H left right all = record {
     each_so = λ r h.
         let s = all.each_so r h in

@@ -213,7 +213,8 @@ fn once_at_most(
     requires once { least ≤ 1 }
     requires short { length doc.now ≤ MOST_DOCUMENT_BYTES }
     requires within { EndWithin (length doc.now) firsts.now }
-    ensures { IfOk result (λ v. Tells (HasFit v.items) (Continued (HasFit firsts.now) (Fit (rep (tree_of sub.now) least (Some 1)) doc.now))) }
+    ensures { IfOk result (λ v. Tells (HasFit v.items)
+        (Continued (HasFit firsts.now) (Fit (rep (tree_of sub.now) least (Some 1)) doc.now))) }
 {
     let mut all = go_on(alloc, sub, doc, firsts)?;
     if least > 0 {

@@ -24,7 +24,8 @@ pub fn atom_table(alloc: Global, atom: &Atom, doc: &[u8]) -> Result<Table, OutOf
     requires sequential { IsSequential (tree_of atom.now.formula) }
     requires room { HaveRoom [] (HasVar (tree_of atom.now.formula)) }
     requires short { length doc.now ≤ MOST_DOCUMENT_BYTES }
-    ensures { IfOk result (λ t. IsTable (HasVar (tree_of atom.now.formula)) (FitsSomewhere (atom_of atom.now) doc.now) t.names t.rows.items) }
+    ensures { IfOk result (λ t. IsTable (HasVar (tree_of atom.now.formula)) (FitsSomewhere (atom_of atom.now) doc.now)
+        t.names t.rows.items) }
 {
     let mut names = VarSet::empty();
     let all = gather(&atom.formula, &mut names);

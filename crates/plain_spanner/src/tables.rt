@@ -62,7 +62,8 @@ fn union_table(
     requires known { AreTables (query_of query.now) doc.now tables.now }
     requires asked { IsAsked (query_of query.now) (length tables.now) (union_all (exprs_of parts.now)) }
     requires short { length doc.now ≤ MOST_DOCUMENT_BYTES }
-    ensures { IfOk result (λ t. IsTableOf (query_of query.now) doc.now (length tables.now) (union_all (exprs_of parts.now)) t.names t.rows.items) }
+    ensures { IfOk result (λ t. IsTableOf (query_of query.now) doc.now (length tables.now)
+        (union_all (exprs_of parts.now)) t.names t.rows.items) }
 {
     let mut all = Table::none(alloc);
     for k in 0..parts.len() {
@@ -84,7 +85,8 @@ fn join_table(
     requires known { AreTables (query_of query.now) doc.now tables.now }
     requires asked { IsAsked (query_of query.now) (length tables.now) (join_all (exprs_of parts.now)) }
     requires short { length doc.now ≤ MOST_DOCUMENT_BYTES }
-    ensures { IfOk result (λ t. IsTableOf (query_of query.now) doc.now (length tables.now) (join_all (exprs_of parts.now)) t.names t.rows.items) }
+    ensures { IfOk result (λ t. IsTableOf (query_of query.now) doc.now (length tables.now)
+        (join_all (exprs_of parts.now)) t.names t.rows.items) }
 {
     let mut all = Table::unit(alloc)?;
     for k in 0..parts.len() {

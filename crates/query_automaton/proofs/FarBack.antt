@@ -51,7 +51,8 @@ has_c of_c = true
 has_c of_all = true
 
 single_holds : (b q : ℕ) (is : Bool) → eq_by_cmp nat_cmp q b ≡ is → bytes.contains (bytes.insert (bytes.empty {R = nat_cmp}) b) q ≡ is
-single_holds b q is e = bytes.contains-insert nat_cmp_total bytes.empty b q ∙ (ap (λ t. t || bytes.contains (bytes.empty {R = nat_cmp}) q) e ∙ (ap (λ t. is || t) (bytes.contains-empty nat_cmp q) ∙ or_false is))
+single_holds b q is e = bytes.contains-insert nat_cmp_total bytes.empty b q ∙
+    (ap (λ t. t || bytes.contains (bytes.empty {R = nat_cmp}) q) e ∙ (ap (λ t. is || t) (bytes.contains-empty nat_cmp q) ∙ or_false is))
   where
     or_false : (b : Bool) → (b || false) ≡ b
     or_false true = refl
@@ -99,7 +100,8 @@ taken_is : (holds : Class → Bool) (b : ℕ) → ((k : Class) → bytes.contain
     filter (λ (y : Way). is_among S y.from && bytes.contains y.bytes b) (map way_of steps) ≡ map way_of (taken holds S steps)
 taken_is holds b h S [] = refl
 taken_is holds b h S (t ∷ steps) =
-    ap (λ c. cond (is_among S t.from && c) (way_of t ∷ filter (λ (y : Way). is_among S y.from && bytes.contains y.bytes b) (map way_of steps)) (filter (λ (y : Way). is_among S y.from && bytes.contains y.bytes b) (map way_of steps))) (h t.class)
+    ap (λ c. cond (is_among S t.from && c) (way_of t ∷ filter (λ (y : Way). is_among S y.from && bytes.contains y.bytes b) (map way_of steps))
+    (filter (λ (y : Way). is_among S y.from && bytes.contains y.bytes b) (map way_of steps))) (h t.class)
     ∙ (ap (λ ys. cond (is_among S t.from && holds t.class) (way_of t ∷ ys) ys) (taken_is holds b h S steps)
     ∙ by (is_among S t.from && holds t.class))
   where

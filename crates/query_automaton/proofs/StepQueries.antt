@@ -71,10 +71,12 @@ module _ (q : QueryTree) (lets : List Marked) (known : AreCompiled q lets) (o : 
           step_more before before_part after_part (steps_within most (all_of o (take k es))) (steps_within most y) (steps_within most (all_of o (take k es)) + steps_within most y)
           (first most within) (takes most (λ n h. within n (part_of_one L o es y n (Has-slice_get es k y at) h))) (omega arith)
 
-      pub two_fault : (held : ℕ) (fault : CompileFault) → IsTold (AreTooLarge o a p) (length (of_two o a p).graph.stops) after_part (two_steps o a p) fault → HasCauseOf L held before (all_of o es) fault
+      pub two_fault : (held : ℕ) (fault : CompileFault) → IsTold (AreTooLarge o a p) (length (of_two o a p).graph.stops) after_part (two_steps o a p)
+          fault → HasCauseOf L held before (all_of o es) fault
       two_fault held fault h =
           cause_of_two L (AreTooLarge o a p) held before after_part (two_steps o a p) (length (of_two o a p).graph.stops) o es k y at
-          (λ f g. too_large q lets known o es asked k l y at a p so_far part marked f g) (λ most within. omega (arith, two_size q lets known o es asked k l y at a p so_far part marked most within)) two_cost two_takes fault h
+          (λ f g. too_large q lets known o es asked k l y at a p so_far part marked f g)
+          (λ most within. omega (arith, two_size q lets known o es asked k l y at a p so_far part marked most within)) two_cost two_takes fault h
 
       pub next_takes : (after : ℕ) → after_part ≤ after + two_steps o a p → TakesFirst L o es (k + 1) before after
       next_takes after spent most within =

@@ -88,7 +88,8 @@ impl<'q> Compiler<'q> {
         ensures query { self.new.query ≡ self.old.query }
         ensures long { OnOk result (length self.new.lets ≡ length (query_of self.old.query).lets) }
         ensures made { OnOk result (AreCompiled (query_of self.old.query) self.new.lets) }
-        ensures held { OnOk result ((most : ℕ) → IsWithin (query_of self.old.query) most → self.new.held ≤ length (query_of self.old.query).lets * most) }
+        ensures held { OnOk result ((most : ℕ) → IsWithin (query_of self.old.query) most →
+            self.new.held ≤ length (query_of self.old.query).lets * most) }
         ensures steps { OnOk result ((most : ℕ) → IsWithin (query_of self.old.query) most →
             MOST_STEPS ≤ effort.new + steps_of_lets most (query_of self.old.query).lets) }
         ensures fault { IfErr result (HasCause (query_of self.old.query)) }
@@ -260,7 +261,9 @@ impl<'q> Compiler<'q> {
         ensures marked { IsMarked all × IsMarked part.now }
         ensures made { IfOk result (λ both. ReducesMarked both (of_union all part.now)) }
         ensures steps { OnOk result (effort.old ≤ effort.new + union_steps all part.now) }
-        ensures fault { IfErr result (IsTold (IsSizeFaultWithin (of_union all part.now).graph.states (length (of_union all part.now).graph.ways)) (length (of_union all part.now).graph.stops) effort.old (union_steps all part.now)) }
+        ensures fault { IfErr result (IsTold
+            (IsSizeFaultWithin (of_union all part.now).graph.states (length (of_union all part.now).graph.ways))
+            (length (of_union all part.now).graph.stops) effort.old (union_steps all part.now)) }
     {
         let own = all.as_automaton();
         prove!(own.states() <= MOST_STATES);
@@ -287,7 +290,9 @@ impl<'q> Compiler<'q> {
         ensures marked { IsMarked all.now × IsMarked part.now }
         ensures made { IfOk result (λ both. ReducesMarked both (of_join all.now part.now)) }
         ensures steps { OnOk result (effort.old ≤ effort.new + join_steps all.now part.now) }
-        ensures fault { IfErr result (IsTold (IsSizeFaultWithin (of_join all.now part.now).graph.states (length (of_join all.now part.now).graph.ways)) (length (of_join all.now part.now).graph.stops) effort.old (join_steps all.now part.now)) }
+        ensures fault { IfErr result (IsTold
+            (IsSizeFaultWithin (of_join all.now part.now).graph.states (length (of_join all.now part.now).graph.ways))
+            (length (of_join all.now part.now).graph.stops) effort.old (join_steps all.now part.now)) }
     {
         // The ways that it tries `join_with_cause` counts.
         effort.spend(u64::from(all.states()) + u64::from(part.states()));
@@ -309,7 +314,9 @@ impl<'q> Compiler<'q> {
         ensures marked { IsMarked left.now × IsMarked right.now }
         ensures made { IfOk result (λ alone. ReducesMarked alone (of_minus left.now right.now)) }
         ensures steps { OnOk result (effort.old ≤ effort.new + minus_steps left.now right.now) }
-        ensures fault { IfErr result (IsTold (IsSizeFaultWithin (of_minus left.now right.now).graph.states (length (of_minus left.now right.now).graph.ways)) 0 effort.old (minus_steps left.now right.now)) }
+        ensures fault { IfErr result (IsTold
+            (IsSizeFaultWithin (of_minus left.now right.now).graph.states
+            (length (of_minus left.now right.now).graph.ways)) 0 effort.old (minus_steps left.now right.now)) }
     {
         // What is tried `minus_with_cause` counts.
         effort.spend(u64::from(left.states()) + u64::from(right.states()));

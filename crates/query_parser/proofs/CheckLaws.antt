@@ -93,7 +93,8 @@ module _ (V S : ℕ → VarName → Type 0) where
         ),
       )
 
-  pub union_done : (es : List ExprTree) (k : ℕ) (b : BoundNames) → length es ≤ k → AllPass (take k es) → IsBoundOf V S (union_all (take k es)) b → Passes V S (union_all es) × IsBoundOf V S (union_all es) b
+  pub union_done : (es : List ExprTree) (k : ℕ) (b : BoundNames) → length es ≤ k → AllPass (take k es) → IsBoundOf V S (union_all (take k es)) b →
+      Passes V S (union_all es) × IsBoundOf V S (union_all es) b
   union_done es k b le ok is =
       let all : take k es ≡ es = take_all k es le in
       (union_passes es (subst AllPass all ok), subst (λ (us : List ExprTree). IsBoundOf V S (union_all us) b) all is)

@@ -99,12 +99,14 @@ knows_more lets known l new at knows formed is = record {
     long : length (known ++ new ∷ []) ≡ suc (length known)
     long = omega (arith, length-append known (new ∷ []))
 
-fault_under : (lets : List (VarName × ExprTree)) (known : List BoundNames) (k : ℕ) (e : ExprTree) (f : QueryFault) → length known ≡ k → Knows lets known → IsExprFault (vars_known known) (sure_known known) e f → IsFaultUnder lets k e f
+fault_under : (lets : List (VarName × ExprTree)) (known : List BoundNames) (k : ℕ) (e : ExprTree) (f : QueryFault) → length known ≡ k →
+    Knows lets known → IsExprFault (vars_known known) (sure_known known) e f → IsFaultUnder lets k e f
 fault_under lets known k e f long knows fault =
     subst (λ n. IsFaultUnder lets n e f) long
     (same_fault (vars_known known) (vars_of_lets lets (length known)) (sure_known known) (sure_of_lets lets (length known)) knows.vars knows.sure e f fault)
 
-passes_under : (lets : List (VarName × ExprTree)) (known : List BoundNames) (k : ℕ) (e : ExprTree) → length known ≡ k → Knows lets known → Passes (vars_known known) (sure_known known) e → PassesUnder lets k e
+passes_under : (lets : List (VarName × ExprTree)) (known : List BoundNames) (k : ℕ) (e : ExprTree) → length known ≡ k → Knows lets known →
+    Passes (vars_known known) (sure_known known) e → PassesUnder lets k e
 passes_under lets known k e long knows pass =
     subst (λ n. PassesUnder lets n e) long
     (same_passes (vars_known known) (vars_of_lets lets (length known)) (sure_known known) (sure_of_lets lets (length known)) knows.vars knows.sure e pass)

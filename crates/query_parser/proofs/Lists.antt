@@ -116,7 +116,8 @@ with_name_new x (y ∷ ys) new = by (with_name_new x ys) (name_cmp x y) refl
     others : is_among ys x ≡ false
     others = not_among ys x (λ h. among_not (y ∷ ys) x new (inr h))
 
-    by : (is_among ys x ≡ false → length (with_name x ys) ≡ suc (length ys)) → (o : Ordering) → name_cmp x y ≡ o → length (by_order o (x ∷ (y ∷ ys)) (y ∷ ys) (y ∷ with_name x ys)) ≡ suc (length (y ∷ ys))
+    by : (is_among ys x ≡ false → length (with_name x ys) ≡ suc (length ys)) → (o : Ordering) → name_cmp x y ≡ o →
+        length (by_order o (x ∷ (y ∷ ys)) (y ∷ ys) (y ∷ with_name x ys)) ≡ suc (length (y ∷ ys))
     by more Less e = refl
     by more Equal e = absurd (among_not (y ∷ ys) x new (inl (sym (exact_bytes x y e))))
     by more Greater e = ap suc (more others)

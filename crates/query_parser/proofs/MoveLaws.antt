@@ -66,7 +66,8 @@ unit_seen x n =
 
 keep_seen : (names : List VarName) (x : VarName) (n : Nest) →
     seen (reads_name x (Ok (if finds_room names x then with_last (after_kept (with_name x names)) n else record n { last = after_kept names; many = true })))
-    ≡ (if is_name x then Ok (if finds_room names x then marked (mark.after_kept (with_name x names)) (reading_of n) else record (reading_of n) { mark = mark.after_kept names; many = true }) else Err name_too_long)
+    ≡ (if is_name x then Ok (if finds_room names x then marked (mark.after_kept (with_name x names)) (reading_of n) else record (reading_of n)
+    { mark = mark.after_kept names; many = true }) else Err name_too_long)
 keep_seen names x n =
     seen_if (is_name x) (Ok (if finds_room names x then with_last (after_kept (with_name x names)) n else record n { last = after_kept names; many = true })) (Err name_too_long)
     ∙ ap (λ r. if is_name x then Ok r else Err name_too_long)

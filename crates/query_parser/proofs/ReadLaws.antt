@@ -192,6 +192,7 @@ checked_formed text q bytes (ts, has, spelled) = query_formed text ts q bytes ha
 pub checked_sound : (text : List ℕ) (q : QueryTree) → IsText text → SpellsQuery text q → PassesQuery q → AtMost MOST_VARIABLES (NameOf q) → IsSound q
 checked_sound text q bytes (ts, has, spelled) passes few = sound_query text ts q bytes has spelled passes few
 
-pub checked_fault : (text : List ℕ) (q : QueryTree) (e : QueryFault) → length text ≤ MOST_TEXT_BYTES → SpellsQuery text q → AtMost MOST_VARIABLES (NameOf q) → (e ≡ OutOfMemory) ⊎ IsTreeFault q e → IsRead text (Err e)
+pub checked_fault : (text : List ℕ) (q : QueryTree) (e : QueryFault) → length text ≤ MOST_TEXT_BYTES → SpellsQuery text q →
+    AtMost MOST_VARIABLES (NameOf q) → (e ≡ OutOfMemory) ⊎ IsTreeFault q e → IsRead text (Err e)
 checked_fault text q e short spelled few (inl is) = inl is
 checked_fault text q e short spelled few (inr f) = inr (not_sound {q = q} short spelled few f)

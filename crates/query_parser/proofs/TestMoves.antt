@@ -163,7 +163,8 @@ token_spells at close_paren ts (after_test_var a) asked k p e (d, o, v, same, be
     let is : tests_at (asked ++ a ∷ []) after_test ≡ k = cc in
     let whole = (a.at, name_token a.test) ∷ (o, open_paren) ∷ (v, name_token a.var) ∷ (at, close_paren) ∷ [] in
     subst (Holds (ts ++ (at, close_paren) ∷ [])) is
-    (subst (λ x. SpellsTests x (asked ++ a ∷ [])) (sym (one_more d ((a.at, name_token a.test) ∷ (o, open_paren) ∷ (v, name_token a.var) ∷ []) (at, close_paren) same)) (end_test asked d whole a before (one_test free also)))
+    (subst (λ x. SpellsTests x (asked ++ a ∷ []))
+    (sym (one_more d ((a.at, name_token a.test) ∷ (o, open_paren) ∷ (v, name_token a.var) ∷ []) (at, close_paren) same)) (end_test asked d whole a before (one_test free also)))
 token_spells at comma ts after_test asked k p e r =
     let is : tests_at asked at_test ≡ k = cc in
     subst (Holds (ts ++ (at, comma) ∷ [])) is (parted asked ts at r)

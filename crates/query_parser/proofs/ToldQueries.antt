@@ -86,7 +86,8 @@ module _ (V S : ℕ → VarName → Type 0) (told : (k : ℕ) (x : VarName) → 
   AreSharing (join e rest) = SharesSure V S e rest × AreSharing rest
   AreSharing _ = Unit {0}
 
-  shares : (before : List ExprTree) (e : ExprTree) → ((x : VarName) → Clashes V S before e x → ⊥) → (g : ExprTree) → Has before g → (x : VarName) → VarOf V g x → VarOf V e x → SureOf S g x × SureOf S e x
+  shares : (before : List ExprTree) (e : ExprTree) → ((x : VarName) → Clashes V S before e x → ⊥) → (g : ExprTree) → Has before g → (x : VarName) →
+      VarOf V g x → VarOf V e x → SureOf S g x × SureOf S e x
   shares before e none g has x v w = held (told_shares g e x) (λ not. none x (g, has, v, w, not))
 
   clashes_or_shares : (n : ℕ) (before : List ExprTree) (rest : ExprTree) → AreJoinedFormed n rest → ((x : VarName) × ClashesFirst V S before rest x) ⊎ (EachShares before rest × AreSharing rest)
@@ -255,7 +256,8 @@ expr_passes_or_fault lets n e c =
 abbrev LetsOrFault : Lets → Type 0
 LetsOrFault lets = ((j : ℕ) → LetPasses lets j) ⊎ ((k : ℕ) × ((j : ℕ) → j < k → LetPasses lets j) × ((e : QueryFault) × IsLetFault lets k e))
 
-lets_or_fault : (lets : Lets) → ((k : ℕ) (l : VarName × ExprTree) → slice_get lets k ≡ Some l → IsFormed k l.1) → (fuel k : ℕ) → length lets ≤ k + fuel → ((j : ℕ) → j < k → LetPasses lets j) → LetsOrFault lets
+lets_or_fault : (lets : Lets) → ((k : ℕ) (l : VarName × ExprTree) → slice_get lets k ≡ Some l → IsFormed k l.1) → (fuel k : ℕ) →
+    length lets ≤ k + fuel → ((j : ℕ) → j < k → LetPasses lets j) → LetsOrFault lets
 lets_or_fault lets formed zero k past before = inl (λ j l at. before j (omega (arith, slice_get_within lets j l at, past)) l at)
 lets_or_fault lets formed (suc fuel) k past before = by (slice_get lets k) refl (lets_or_fault lets formed fuel (k + 1) (omega (arith, past)))
   where

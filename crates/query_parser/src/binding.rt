@@ -10,7 +10,8 @@ use spanner_model::Tested;
 /// Whether each test of the query is in the list; else the fault of the first that is not.
 pub fn bind<J: Judge>(tested: &Tested, tests: &Tests<J>) -> Result<(), QueryFault>
     ensures known { OnOk result (AreKnown (known tests.now J.judges) tested.now.asked) }
-    ensures fault { IfErr result (λ e. (at : ℕ) × FirstUnknown (known tests.now J.judges) tested.now.asked at × (e ≡ QueryFault.UnknownTest at)) }
+    ensures fault { IfErr result (λ e. (at : ℕ) × FirstUnknown (known tests.now J.judges) tested.now.asked at ×
+        (e ≡ QueryFault.UnknownTest at)) }
 {
     let mut k = 0;
     while k < tested.asked.len() {

@@ -145,7 +145,8 @@ fn keep(at: usize, word: &[u8], nest: &mut Nest) -> Result<usize, QueryFault>
 
 /// A name where only the sign `minus` may stand.
 fn minus_word(alloc: Global, at: usize, word: &[u8], nest: &mut Nest) -> Result<usize, QueryFault>
-    ensures { IsStep result (moved at (length word.now) (moves_minus word.now (nest_of nest.old).last (nest_of nest.old))) (nest_of nest.new) }
+    ensures { IsStep result (moved at (length word.now)
+        (moves_minus word.now (nest_of nest.old).last (nest_of nest.old))) (nest_of nest.new) }
 {
     let last = mem::replace(&mut nest.last, Last::Before);
     match last {

@@ -80,7 +80,8 @@ let_lexed x v us free lexes after =
 abbrev LetsText : List ℕ → Lets → Type 0
 LetsText u done = (ts : List Token) × LexedAlways u ts × SpellsLets ts done
 
-next_let : (names : List VarName) (u : List ℕ) (done : Lets) (l : VarName × ExprTree) → LetsText u done → IsFreeName l.0 → (Has (names_of done) l.0 → ⊥) → ExprText (names_of done) (printed names l.1) l.1 →
+next_let : (names : List VarName) (u : List ℕ) (done : Lets) (l : VarName × ExprTree) → LetsText u done → IsFreeName l.0 →
+    (Has (names_of done) l.0 → ⊥) → ExprText (names_of done) (printed names l.1) l.1 →
     LetsText (u ++ let_text names l) (done ++ l ∷ [])
 next_let names u done l (ts, lexed, s) free new (us, es, lexes, x, is) =
     let more = let_word ∷ name_token l.0 ∷ equals ∷ (us ++ semicolon ∷ []) in (

@@ -41,8 +41,12 @@ names_spelled : (rest : List VarName) → ((x : VarName) → Has rest x → IsFr
 names_spelled [] free u xs (ts, lexes, s) = (ts, subst (λ v. Lexes v ts) (sym (append-nil u)) lexes, subst (SpellsNames ts) (sym (append-nil xs)) s)
 names_spelled (x ∷ rest) free u xs (ts, lexes, s) =
     let here = free x (inl refl) in
-    let r = names_spelled rest (λ y h. free y (inr h)) (u ++ (44 ∷ [] ++ x)) (xs ++ x ∷ [])
-    (ts ++ comma ∷ name_token x ∷ [], lexes_more u (44 ∷ []) x ts (name_token x ∷ []) comma lexes (λ after. lexed_sign 44 comma after refl) (λ after. refl) (λ after stops. lexed_name x after here stops), more_names s here) in
+    let r = names_spelled rest (λ y h. free y (inr h)) (u ++ (44 ∷ [] ++ x)) (xs ++ x ∷ []) (
+      ts ++ comma ∷ name_token x ∷ [],
+      lexes_more u (44 ∷ []) x ts (name_token x ∷ []) comma lexes (λ after. lexed_sign 44 comma after refl)
+          (λ after. refl) (λ after stops. lexed_name x after here stops),
+      more_names s here,
+    ) in
     (r.0, subst (λ v. Lexes v r.0) (more_texts u (44 ∷ []) x rest) r.1, subst (SpellsNames r.0) (append_assoc xs (x ∷ []) rest) r.2)
 
 keep_spelled : (names : List VarName) → ((x : VarName) → Has names x → IsFreeName x) → AreVariables names → (ts : List Token) × Lexes (keep_text names) ts × SpellsKeep ts names

@@ -75,7 +75,8 @@ lexed_atom a after stops built few text p more is has =
     let inner : drop (p + 1) text ≡ u ++ 47 ∷ after = drop_token text p (47 ∷ []) ((u ++ 47 ∷ []) ++ after) is ∙ append_assoc u (47 ∷ []) after in
     let long : p + length (atom_text a) ≡ p + 1 + length u + 1 = omega (arith, length-append u (47 ∷ [])) in
     let spells = printed_spells a after built few in
-    let none : HasNoSign text p = λ w v closed. (let same = one_inside closed.0 (spelled_inside of_bytes u a after spells) v after (sym closed.1 ∙ inner) in ap is_sign same.1 ∙ unsigned after stops) in
+    let none : HasNoSign text p = λ w v closed. (let same = one_inside closed.0 (spelled_inside of_bytes u a after spells) v after (sym closed.1 ∙
+    inner) in ap is_sign same.1 ∙ unsigned after stops) in
     token_first (atom_at ((u ++ 47 ∷ []) ++ after, is) (over_bytes none (u, after, inner, spells, long))) has
 
 -- ---- names

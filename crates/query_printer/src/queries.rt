@@ -174,7 +174,8 @@ fn push_difference(
 ) -> Result<(), OutOfMemory>
     requires left { IsFormed (length (lets_of lets.now)) (expr_of left.now) }
     requires right { IsFormed (length (lets_of lets.now)) (expr_of right.now) }
-    ensures ok { OnOk result (out.new.items ≡ out.old.items ++ printed (names_of (lets_of lets.now)) (minus (expr_of left.now) (expr_of right.now))) }
+    ensures ok { OnOk result (out.new.items ≡ out.old.items ++ printed (names_of (lets_of lets.now))
+        (minus (expr_of left.now) (expr_of right.now))) }
     ensures front { IsPrefixOf out.old.items out.new.items }
 {
     push_wrapped(Shape::of(left).wraps_in_union(), left, lets, out)?;
@@ -190,7 +191,8 @@ fn push_projection(
     out: &mut Vec<u8>,
 ) -> Result<(), OutOfMemory>
     requires { IsFormed (length (lets_of lets.now)) (expr_of sub.now) }
-    ensures ok { OnOk result (out.new.items ≡ out.old.items ++ printed (names_of (lets_of lets.now)) (project names.now (expr_of sub.now))) }
+    ensures ok { OnOk result (out.new.items ≡ out.old.items ++ printed (names_of (lets_of lets.now))
+        (project names.now (expr_of sub.now))) }
     ensures front { IsPrefixOf out.old.items out.new.items }
 {
     push_bytes(b"project ", out)?;

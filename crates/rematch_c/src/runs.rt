@@ -84,7 +84,8 @@ pub(crate) fn run_program(
 ) -> Status
     requires rows { written.old.rows ≡ 0 }
     requires notes { written.old.notes ≡ 0 }
-    ensures { Ended (Some held.old) input.now (Some held.new) (outputs rows.old rows.new notes.old notes.new written.new) (exit_status_of result) }
+    ensures { Ended (Some held.old) input.now (Some held.new)
+        (outputs rows.old rows.new notes.old notes.new written.new) (exit_status_of result) }
 {
     let Held::Run(run) = held else {
         return Status::Words;

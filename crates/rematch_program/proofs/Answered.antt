@@ -35,7 +35,8 @@ result_last q r d names others after rest same are left =
     subst (λ (ns : List VarName). AreLast (query_of r) d ns rest) (sym are) (subst (λ (p : Query). AreLast (query_of p) d names rest) same (left_last (query_of q) d names after rest left))
 
 -- the rows are over s, and these answers were left of them
-module _ (judges : ℕ → List ℕ → Bool) (s : Source) (rest : List SpanRow) (r : RowsLeft) (over : r.source ≡ s) (are : r.rest ≡ rest) (a : RequestView) (q : QueryTree) (out : Change) (end : Status) (note : List ℕ) (old mid new : ℕ) where
+module _ (judges : ℕ → List ℕ → Bool) (s : Source) (rest : List SpanRow) (r : RowsLeft) (over : r.source ≡ s) (are : r.rest ≡ rest) (a : RequestView)
+    (q : QueryTree) (out : Change) (end : Status) (note : List ℕ) (old mid new : ℕ) where
   abbrev page : List SpanRow
   page = first_rows a.limit (passing_over judges s rest)
 
@@ -45,11 +46,13 @@ module _ (judges : ℕ → List ℕ → Bool) (s : Source) (rest : List SpanRow)
       (PageTakes (checks_over judges s) s.names s.document rest page)
   page_written h =
       let At : Source → List SpanRow → Type 0 = λ u rows. FromPage (work out (clock mid new)) end note (page_text a.form a.texts u.names u.document (first_rows a.limit (passing_over judges u rows)))
-      (last_note u.names (length u.document) a.after (first_rows a.limit (passing_over judges u rows)) (nat_lt (length (first_rows a.limit (passing_over judges u rows))) (length (passing_over judges u rows))))
+      (last_note u.names (length u.document) a.after (first_rows a.limit (passing_over judges u rows))
+      (nat_lt (length (first_rows a.limit (passing_over judges u rows))) (length (passing_over judges u rows))))
       (PageTakes (checks_over judges u) u.names u.document rows (first_rows a.limit (passing_over judges u rows))) in
       subst (At s) are (subst (λ (u : Source). At u r.rest) over h)
 
-  pub page_answered : (after : Option Kept) → a.mode ≡ mode.Plain → CursorFits (length s.document) after → IsHeldWithin a.filter q s.document a.max_table → AreLeft q s.document s.names (row_kept after) rest →
+  pub page_answered : (after : Option Kept) → a.mode ≡ mode.Plain → CursorFits (length s.document) after →
+      IsHeldWithin a.filter q s.document a.max_table → AreLeft q s.document s.names (row_kept after) rest →
       KeepsWithin a.filter q s.document (λ K. begin_steps a.filter q s.document K (row_kept after)) (clock old mid) →
       FromPage (work out (clock mid new)) end note (whole_text judges r a) (page_note judges r a) (PageTaken judges r a.limit) →
       FromDocument a q (checks_over judges s) (work out (clock old new)) end note s.names after s.document
@@ -62,7 +65,8 @@ module _ (judges : ℕ → List ℕ → Bool) (s : Source) (rest : List SpanRow)
       (page_earlier out end note old mid new _ _ _ _ (page_keeps a.filter q s.document s.names old mid new (checks_over judges s) (row_kept after) rest page left few) (page_written h)))
 
   summary_written : (lines : ℕ) → FromPage (work out (clock mid new)) end note (trial_summary lines r.source.names r.source.document (coming judges r)) (line (codes "end")) (AllTaken judges r) →
-      FromPage (work out (clock mid new)) end note (trial_summary lines s.names s.document (passing_over judges s rest)) (line (codes "end")) (TrialTakes (checks_over judges s) s.names rest (passing_over judges s rest))
+      FromPage (work out (clock mid new)) end note (trial_summary lines s.names s.document (passing_over judges s rest)) (line (codes "end"))
+      (TrialTakes (checks_over judges s) s.names rest (passing_over judges s rest))
   summary_written lines h =
       let At : Source → List SpanRow → Type 0 = λ u rows. FromPage (work out (clock mid new)) end note (trial_summary lines u.names u.document (passing_over judges u rows)) (line (codes "end"))
       (TrialTakes (checks_over judges u) u.names rows (passing_over judges u rows)) in

@@ -53,7 +53,8 @@ part_lines before old parts k e mid text all new at first then_ =
     subst (λ xs. HasLines before old xs all new) (sym atoms) (more_lines before old (atoms_among (take k parts)) mid text (atoms_of e) all new first then_)
 
 -- one named expression more
-pub let_lines : (before : ℕ) (old : List ℕ) (lets : List (VarName × ExprTree)) (k : ℕ) (name : VarName) (e : ExprTree) (mid : ℕ) (text : List ℕ) (all : ℕ) (new : List ℕ) → slice_get lets k ≡ Some (name, e) →
+pub let_lines : (before : ℕ) (old : List ℕ) (lets : List (VarName × ExprTree)) (k : ℕ) (name : VarName) (e : ExprTree) (mid : ℕ) (text : List ℕ)
+    (all : ℕ) (new : List ℕ) → slice_get lets k ≡ Some (name, e) →
     HasLines before old (atoms_in (take k lets)) mid text → HasLines mid text (atoms_of e) all new → HasLines before old (atoms_in (take (k + 1) lets)) all new
 let_lines before old lets k name e mid text all new at first then_ =
     let one : take (k + 1) lets ≡ take k lets ++ (name, e) ∷ [] = take_at_more lets k (name, e) at in

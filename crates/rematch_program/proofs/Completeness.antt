@@ -112,23 +112,28 @@ faults_earlier : (s later : Shelved) (name : Text) → IsLater s later → HasFa
 faults_earlier s later name is rose =
     let P : Told → Type 0 = λ t. Rose (later.before.faults name) (t.faults name) in rose_from _ _ _ (is.counts name) (subst P is.ends rose)
 
-has_later : (s later : Shelved) (a : RequestView) (names : List VarName) (after : Option Kept) (document : Text) → IsLater s later → HasDocument a names after document s → HasDocument a names after document later
+has_later : (s later : Shelved) (a : RequestView) (names : List VarName) (after : Option Kept) (document : Text) → IsLater s later →
+    HasDocument a names after document s → HasDocument a names after document later
 has_later s later a names after document is has =
     let P : (Text → Option Text) → Type 0 = λ held. held a.document ≡ Some document in
     record { begins = has.begins; held = subst P (sym is.kept) has.held; few = has.few; fits = has.fits; fetched = λ rose. has.fetched (faults_earlier s later a.document is rose) }
 
 -- from the words to the query; `Goal` is what is to be shown
-module _ (k : Known) (words : List Text) (a : RequestView) (text : Text) (t : TestedTree) (names : List VarName) (s : Shelved) (w : Work) (notes : Change) (clear : IsClear k words a text t names s w.out notes) (end : Status) (note : Text) (Goal : Type 0) (memory : end ≡ status.Memory → Goal) (from_query : (p : Shelved) → IsLater s p → FromQuery p w end note a t (checks_of k t.asked) → Goal) where
+module _ (k : Known) (words : List Text) (a : RequestView) (text : Text) (t : TestedTree) (names : List VarName) (s : Shelved) (w : Work)
+    (notes : Change) (clear : IsClear k words a text t names s w.out notes) (end : Status) (note : Text) (Goal : Type 0)
+    (memory : end ≡ status.Memory → Goal) (from_query : (p : Shelved) → IsLater s p → FromQuery p w end note a t (checks_of k t.asked) → Goal) where
   from_text : (p : Shelved) → IsLater s p → FromText p w end note k a text → Goal
   from_text p later (query_refused fault only is quiet) = absurd (only.unsound t clear.sound clear.tests_known)
   from_text p later (out_of_memory is quiet) = memory is.ends
-  from_text p later (understood other only case) = let P : TestedTree → Type 0 = λ u. FromQuery p w end note a u (checks_of k u.asked) in from_query p later (subst P (sym (only.only t clear.sound)) case)
+  from_text p later (understood other only case) = let P : TestedTree → Type 0 = λ u. FromQuery p w end note a u (checks_of k u.asked) in
+      from_query p later (subst P (sym (only.only t clear.sound)) case)
 
   given_as : (query : Query) → a.query ≡ query → IsTextOf s query text
   given_as query is = let P : Query → Type 0 = λ o. IsTextOf s o text in subst P is clear.given
 
   from_request : FromRequest s w end note k a → Goal
-  from_request (given own is case) = let P : Text → Type 0 = λ x. FromText s w end note k a x in from_text s (record { kept = refl; counts = λ n. omega arith; ends = refl }) (subst P (given_as (Itself own) is) case)
+  from_request (given own is case) = let P : Text → Type 0 = λ x. FromText s w end note k a x in
+      from_text s (record { kept = refl; counts = λ n. omega arith; ends = refl }) (subst P (given_as (Itself own) is) case)
   from_request (query_failed name is failed ends quiet) = absurd ((given_as (HeldBy name) is).2 failed.faulty)
   from_request (query_too_long name is long ends quiet) =
       let told = given_as (HeldBy name) is in let more = longer QUERY_LIMIT (s.before.held name) text told.0 long.many in let few = told.1 in absurd (omega (arith, more, few))
@@ -146,7 +151,8 @@ module _ (k : Known) (words : List Text) (a : RequestView) (text : Text) (t : Te
       let P : RequestView → Type 0 = λ b. FromRequest s w end note k b in
       from_request (subst P same case)
 
-from_page : (text last : Text) (Keeps : Clock → Type 0) (w : Work) (end : Status) (note : Text) → ¬ Failed w.out → FromPage w end note text last Keeps → AreWhole text last w end note ⊎ (end ≡ status.Memory)
+from_page : (text last : Text) (Keeps : Clock → Type 0) (w : Work) (end : Status) (note : Text) → ¬ Failed w.out →
+    FromPage w end note text last Keeps → AreWhole text last w end note ⊎ (end ≡ status.Memory)
 from_page text last Keeps w end note fine (whole is says adds few) = inl (record { done = is; wrote = adds; says = says })
 from_page text last Keeps w end note fine (write_failed is failed part few) = absurd (fine failed)
 from_page text last Keeps w end note fine (out_of_memory is part few) = inr is.ends
@@ -158,21 +164,24 @@ pub record IsServed (a : RequestView) (q : QueryTree) (checks : List Check) (nam
   pub page : IsPassingPageOf checks q document names (row_kept after) a.limit rows more
   pub are : AreWhole (page_text a.form a.texts names document rows) (last_note names (length document) a.after rows more) w end note
 
-module _ (k : Known) (words : List Text) (a : RequestView) (text : Text) (t : TestedTree) (names : List VarName) (s : Shelved) (w : Work) (notes : Change) (clear : IsClear k words a text t names s w.out notes) (end : Status) (note : Text) where
+module _ (k : Known) (words : List Text) (a : RequestView) (text : Text) (t : TestedTree) (names : List VarName) (s : Shelved) (w : Work)
+    (notes : Change) (clear : IsClear k words a text t names s w.out notes) (end : Status) (note : Text) where
   abbrev q : QueryTree
   q = t.query
 
   abbrev checks : List Check
   checks = checks_of k t.asked
 
-  module _ (wants : WantsAnswers a.mode) (small : PartsAreSmall q) (p : Shelved) (Goal : Type 0) (memory : end ≡ status.Memory → Goal) (from_compiled : FromCompiled a q checks w end note p → Goal) where
+  module _ (wants : WantsAnswers a.mode) (small : PartsAreSmall q) (p : Shelved) (Goal : Type 0) (memory : end ≡ status.Memory →
+      Goal) (from_compiled : FromCompiled a q checks w end note p → Goal) where
     from_query : FromQuery p w end note a t checks → Goal
     from_query (explained is case still same) = let P : Mode → Type 0 = λ m. WantsAnswers m in absurd (subst P is wants)
     from_query (too_large asks why quiet) = memory (never_too_large q small end note why)
     from_query (out_of_memory is quiet) = memory is.ends
     from_query (compiled asks few case) = from_compiled case
 
-  module _ (after : Option Kept) (document : Text) (limits : IsWithinLimits a q document) (fits : CursorFits (length document) after) (Goal : Type 0) (memory : end ≡ status.Memory → Goal) (from_answers : FromAnswers a q checks w end note names after document → Goal) where
+  module _ (after : Option Kept) (document : Text) (limits : IsWithinLimits a q document) (fits : CursorFits (length document) after) (Goal : Type 0)
+      (memory : end ≡ status.Memory → Goal) (from_answers : FromAnswers a q checks w end note names after document → Goal) where
     from_document : FromDocument a q checks w end note names after document → Goal
     from_document (not_begun why quiet) = memory (let (K, reads, light) = limits.light in never_unbegun a.filter q after document a.max_table w.steps end note fits limits.filtered K reads light why)
     from_document (out_of_memory is quiet) = memory is.ends
@@ -223,7 +232,8 @@ module _ (k : Known) (words : List Text) (a : RequestView) (text : Text) (t : Te
   -- a trial
   module _ (lines : ℕ) (trial : a.mode ≡ mode.Trial lines) (limits : IsWithinLimits a q (trial_text lines)) where
     abbrev Tried : Type 0
-    Tried = ((rows : List SpanRow) × AreAllPassing checks q (trial_text lines) names rows × AreWhole (trial_summary lines names (trial_text lines) rows) (line (codes "end")) w end note) ⊎ (end ≡ status.Memory)
+    Tried = ((rows : List SpanRow) × AreAllPassing checks q (trial_text lines) names rows ×
+        AreWhole (trial_summary lines names (trial_text lines) rows) (line (codes "end")) w end note) ⊎ (end ≡ status.Memory)
 
     summary_of : FromAnswers a q checks w end note names None (trial_text lines) → Tried
     summary_of (paged is rows more page case) = let both : mode.Plain ≡ mode.Trial lines = sym is ∙ trial in absurd (cc)
@@ -272,7 +282,8 @@ module _ (k : Known) (words : List Text) (a : RequestView) (text : Text) (t : Te
     explains case = from_words k words a text t names s w notes clear end note Explained (λ m. inr m) lines_of case
 
 -- with the note
-reported : (text last : Text) (w : Work) (notes : Change) (end result : Status) (note : Text) → ¬ Failed notes → Reports end note notes result → AreWhole text last w end note → (result ≡ status.Done) × Adds w.out text × Adds notes last
+reported : (text last : Text) (w : Work) (notes : Change) (end result : Status) (note : Text) → ¬ Failed notes → Reports end note notes result →
+    AreWhole text last w end note → (result ≡ status.Done) × Adds w.out text × Adds notes last
 reported text last w notes end result note fine (put_whole is adds) are =
     let P : Text → Type 0 = λ t. Adds notes t in (is ∙ are.done, are.wrote, subst P are.says adds)
 reported text last w notes end result note fine (cut is failed part) are = absurd (fine failed)
@@ -285,14 +296,16 @@ module _ (k : Known) (words : List Text) (s : Shelved) (out notes : Change) (ste
   plain_completes : PlainCompletes k words s out notes result
   plain_completes a text t names after document plain clear has limits =
       elim (served k words a text t names s (work out steps) notes clear run.end run.note after document plain limits has run.done) [
-        | inl p ↦ let r = reported _ _ (work out steps) notes run.end result run.note clear.noted run.report p.are in inl (record { done = r.0; rows = p.rows; more = p.more; page = p.page; text = r.1; note = r.2 })
+        | inl p ↦ let r = reported _ _ (work out steps) notes run.end result run.note clear.noted run.report p.are in
+            inl (record { done = r.0; rows = p.rows; more = p.more; page = p.page; text = r.1; note = r.2 })
         | inr m ↦ inr (memory_reported notes run.end result run.note clear.noted run.report m)
       ]
 
   trial_completes : TrialCompletes k words s out notes result
   trial_completes a text t names lines trial clear limits =
       elim (tried k words a text t names s (work out steps) notes clear run.end run.note lines trial limits run.done) [
-        | inl p ↦ let r = reported _ _ (work out steps) notes run.end result run.note clear.noted run.report p.2 in inl (record { rows = p.0; answers = p.1; writes = record { done = r.0; wrote = r.1; note = r.2 } })
+        | inl p ↦ let r = reported _ _ (work out steps) notes run.end result run.note clear.noted run.report p.2 in
+            inl (record { rows = p.0; answers = p.1; writes = record { done = r.0; wrote = r.1; note = r.2 } })
         | inr m ↦ inr (memory_reported notes run.end result run.note clear.noted run.report m)
       ]
 

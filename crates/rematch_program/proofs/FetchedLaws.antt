@@ -111,7 +111,8 @@ module _ (a : RequestView) (s : Shelved) (w : Work) (end : Status) (note : Text)
         first = ap (λ (l : List Text). name ∷ l) next.first;
       })
 
-in_words : (k : Known) (words : List Text) (s : Shelved) (w : Work) (end : Status) (note : Text) (a : RequestView) → requested words ≡ Some a → FromWords s w end note k words → FetchesFirst s (names_of a)
+in_words : (k : Known) (words : List Text) (s : Shelved) (w : Work) (end : Status) (note : Text) (a : RequestView) → requested words ≡ Some a →
+    FromWords s w end note k words → FetchesFirst s (names_of a)
 in_words k words s w end note a is (refused none ends idle) = untouched_first s _ idle.0
 in_words k words s w end note a is (out_of_memory ends idle) = untouched_first s _ idle.0
 in_words k words s w end note a is (accepted other also case) =

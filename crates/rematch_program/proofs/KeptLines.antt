@@ -15,7 +15,8 @@ kept_row_of form.Table texts names d row e = kept_table names row d texts e
 kept_row_of form.Json texts names d row e = kept_json names row d texts e
 
 -- the line of a row as its form keeps it
-pub kept_row : (f : Form) (texts : Bool) (names : List VarName) (d : List ℕ) (row : SpanRow) (kept : Line) → kept ≡ kept_of f names → length row ≡ length names → kept_text kept row d texts ≡ row_text f texts names d row
+pub kept_row : (f : Form) (texts : Bool) (names : List VarName) (d : List ℕ) (row : SpanRow) (kept : Line) → kept ≡ kept_of f names →
+    length row ≡ length names → kept_text kept row d texts ≡ row_text f texts names d row
 kept_row f texts names d row kept is e = ap (λ (k : Line). kept_text k row d texts) is ∙ kept_row_of f texts names d row e
 
 width_of : (f : Form) (names : List VarName) → length (kept_of f names).heads ≡ length names

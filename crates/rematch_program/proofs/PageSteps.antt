@@ -132,7 +132,8 @@ module _ (judges : ℕ → List ℕ → Bool) (s t : Source) (same : t ≡ s) (a
       (tries judges s t same old [] [] mid next false gone)
 
   -- the try behind the last row of a page
-  pub last_try : (page : List SpanRow) (row : SpanRow) (found : Bool) → OnTrue found (passing_over judges t old ≡ row ∷ passing_over judges t new) → OnFalse found ((passing_over judges t old ≡ []) × (new ≡ [])) →
+  pub last_try : (page : List SpanRow) (row : SpanRow) (found : Bool) → OnTrue found (passing_over judges t old ≡ row ∷ passing_over judges t new) →
+      OnFalse found ((passing_over judges t old ≡ []) × (new ≡ [])) →
       length (passing_over judges s all) ≤ length page + length (passing_over judges s old) →
       next ≤ mid + trying_steps (length t.names) (length t.asked) (length old - length new) found → PageTakes (checks_over judges s) s.names s.document all page (clock start next)
   last_try page row true some none few took =
@@ -147,7 +148,8 @@ on_true true P p = p
 on_true false P p = tt
 
 -- what was gone on to leaves fewer
-pub further : (judges : ℕ → List ℕ → Bool) (s : Source) (old new : List SpanRow) (row : SpanRow) → EndsIn old new → passing_over judges s old ≡ row ∷ passing_over judges s new → length new < length old
+pub further : (judges : ℕ → List ℕ → Bool) (s : Source) (old new : List SpanRow) (row : SpanRow) → EndsIn old new →
+    passing_over judges s old ≡ row ∷ passing_over judges s new → length new < length old
 further judges s old new row ([], is) next =
     let same = ap (λ (rows : List SpanRow). length (passing_over judges s rows)) is in
     let one = ap length next in

@@ -53,13 +53,15 @@ first_is checks q d names after None rows rest false a is m = (
   refl,
 )
 
-pub passing_page : (checks : List Check) (q : QueryTree) (d : List ℕ) (names : List VarName) (after : Option SpanRow) (limit : Option ℕ) (rest : List SpanRow) (more : Bool) → AreLeft q d names after rest →
+pub passing_page : (checks : List Check) (q : QueryTree) (d : List ℕ) (names : List VarName) (after : Option SpanRow) (limit : Option ℕ)
+    (rest : List SpanRow) (more : Bool) → AreLeft q d names after rest →
     IsTrue more ↔ (length (first_rows limit (passing checks names d rest)) < length (passing checks names d rest)) →
     IsPassingPageOf checks q d names after limit (first_rows limit (passing checks names d rest)) more
 passing_page checks q d names after limit rest more (rows, answers, is) m =
     first_is checks q d names after limit rows (passing checks names d rest) more answers (rest_passes checks names d after rows rest is) m
 
-pub all_passing : (checks : List Check) (q : QueryTree) (d : List ℕ) (names : List VarName) (rest : List SpanRow) → AreLeft q d names None rest → AreAllPassing checks q d names (passing checks names d rest)
+pub all_passing : (checks : List Check) (q : QueryTree) (d : List ℕ) (names : List VarName) (rest : List SpanRow) → AreLeft q d names None rest →
+    AreAllPassing checks q d names (passing checks names d rest)
 all_passing [] q d names rest (rows, answers, is) = subst (λ (rs : List SpanRow). AreAnswers q d names rs) (sym is) answers
 all_passing (c ∷ checks) q d names rest (rows, answers, is) = (rows, answers, ap (passing (c ∷ checks) names d) is)
 

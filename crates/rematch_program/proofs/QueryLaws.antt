@@ -84,7 +84,8 @@ module _ (k : Known) (text : List ℕ) (tested : Tested) (found : IsTestedText t
     }
 
 -- the reader refused the text
-module _ (k : Known) (text : List ℕ) (e : QueryFault) (other : ¬ (e ≡ OutOfMemory)) (found : (e ≡ OutOfMemory) ⊎ HasTestedFault text e) (queries : (t : TestedTree) → IsTestedText text t → IsTestedAnswer (Err e) (Ok t))
+module _ (k : Known) (text : List ℕ) (e : QueryFault) (other : ¬ (e ≡ OutOfMemory)) (found : (e ≡ OutOfMemory) ⊎ HasTestedFault text e)
+    (queries : (t : TestedTree) → IsTestedText text t → IsTestedAnswer (Err e) (Ok t))
     (faults : (d : QueryFault) → HasTestedFault text d → IsTestedAnswer (Err e) (Err d)) where
   no_query : (t : TestedTree) → ¬ IsTestedText text t
   no_query t h = not_both t e (answer_is e (Ok t) other (queries t h))

@@ -35,7 +35,8 @@ begun_over p a s names document is columns bytes = record {
 }
 
 -- what waits and the lines of the rows are its text
-pub begun_text : (p : Page) (a : RequestView) (s : Source) (names : List VarName) (document : List ℕ) (rows : List SpanRow) → p ≡ page_begun a names document → names ≡ s.names → document ≡ s.document →
+pub begun_text : (p : Page) (a : RequestView) (s : Source) (names : List VarName) (document : List ℕ) (rows : List SpanRow) →
+    p ≡ page_begun a names document → names ≡ s.names → document ≡ s.document →
     p.waiting ++ lines_of p rows ≡ page_text a.form a.texts s.names s.document rows
 begun_text p a s names document rows is columns bytes =
     ap (λ (q : Page). q.waiting ++ lines_of q rows) is

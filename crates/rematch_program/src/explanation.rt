@@ -50,7 +50,8 @@ fn put_text<O: Sink>(text: &[u8], out: &mut O) -> Outcome
 /// The lines that explain a query with its tests.
 fn explanation(alloc: Global, tested: &Tested) -> Result<Vec<u8>, OutOfMemory>
     requires { IsSound (query_of tested.now.query) }
-    ensures { IfOk result (λ text. (names : List VarName) × AreResultNames (query_of tested.now.query) names × (text.items ≡ explain_tested (tested_of tested.now) names)) }
+    ensures { IfOk result (λ text. (names : List VarName) × AreResultNames (query_of tested.now.query) names ×
+        (text.items ≡ explain_tested (tested_of tested.now) names)) }
 {
     let query = &tested.query;
     let vars = variables(alloc, query)?;

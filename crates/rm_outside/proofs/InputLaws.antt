@@ -76,7 +76,8 @@ module _ (s e room n : ℕ) (xs held before after : List ℕ) (known : Option (L
       let few_there : n ≤ length all = subst (λ (ys : List ℕ). n ≤ length (window s e ys)) same small in
       let left : window (s + n) e xs ≡ drop n all = window_less s e n xs (omega (arith, size, few_there)) in
       let taken : take n all ≡ line = ap (λ (k : ℕ). take k all) at ∙ line_is all in
-      let joined : all ≡ (line ++ []) ++ window (s + n) e xs = sym (take-append-drop n all) ∙ ap (λ (ys : List ℕ). ys ++ drop n all) taken ∙ ap (λ (ys : List ℕ). ys ++ drop n all) (sym (append-nil line)) ∙ ap (λ (ys : List ℕ). (line ++ []) ++ ys) (sym left) in
+      let joined : all ≡ (line ++ []) ++ window (s + n) e xs = sym (take-append-drop n all) ∙ ap (λ (ys : List ℕ). ys ++ drop n all) taken ∙
+      ap (λ (ys : List ℕ). ys ++ drop n all) (sym (append-nil line)) ∙ ap (λ (ys : List ℕ). (line ++ []) ++ ys) (sym left) in
       record {
         part = line;
         counted = sym at;
@@ -142,7 +143,8 @@ module _ (limit : ℕ) (old mid now : Option (List ℕ)) (before between after :
       by None n c = tt
       by (Some xs) None c = absurd c
       by (Some xs) (Some ys) c =
-          let whole : (t.part ++ p.part) ++ 10 ∷ ys ≡ xs = append_assoc t.part p.part (10 ∷ ys) ∙ ap (λ (zs : List ℕ). t.part ++ zs) (sym (append_assoc p.part (10 ∷ []) ys)) ∙ sym (append_assoc t.part (p.part ++ 10 ∷ []) ys) ∙ sym c in
+          let whole : (t.part ++ p.part) ++ 10 ∷ ys ≡ xs = append_assoc t.part p.part (10 ∷ ys) ∙
+          ap (λ (zs : List ℕ). t.part ++ zs) (sym (append_assoc p.part (10 ∷ []) ys)) ∙ sym (append_assoc t.part (p.part ++ 10 ∷ []) ys) ∙ sym c in
           subst (λ (zs : List ℕ). NextLine zs (t.part ++ p.part) ys) whole (ended (no_end_in t.part p.part t.inside p.inside))
 
   pub at_the_end : (b : Bool) → b ≡ nat_lt 0 seen → IsAtEnd mid → AsksLine limit old mid before between (Ok b)

@@ -8,7 +8,8 @@ use Rattle.std.specs.Io.KnownBytes.{Appends, Consumes, Keeps}
 use Rattle.rm_outside.specs.Sink.{AppendsPart}
 
 -- a write of the first bytes, and then one of a part of `&xs[at..]`
-pub appends_take : (a b c : Option (List ℕ)) (at count : ℕ) (xs : List ℕ) → Appends a b (take at xs) → Appends b c (take count (take (length xs - at) (drop at xs))) → Appends a c (take (at + count) xs)
+pub appends_take : (a b c : Option (List ℕ)) (at count : ℕ) (xs : List ℕ) → Appends a b (take at xs) →
+    Appends b c (take count (take (length xs - at) (drop at xs))) → Appends a c (take (at + count) xs)
 appends_take a b c at count xs p q =
     let same = take_rest xs at in
     let r : Appends b c (take count (drop at xs)) = rw same at q in

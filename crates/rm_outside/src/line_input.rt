@@ -58,8 +58,10 @@ impl<R: Reads> LineInput<R> {
     /// Reads on, where all that was read is taken. False at the end.
     fn fill(&mut self) -> Result<bool, LineFault>
         ensures some { IfOk result (λ some. OnTrue some (self.new.start < self.new.end)) }
-        ensures none { IfOk result (λ some. OnFalse some (IsAtEnd (left_of self.new.start self.new.end self.new.buffer.items (R.told self.new.from).bytes))) }
-        ensures kept { Keeps (left_of self.old.start self.old.end self.old.buffer.items (R.told self.old.from).bytes) (left_of self.new.start self.new.end self.new.buffer.items (R.told self.new.from).bytes) }
+        ensures none { IfOk result (λ some. OnFalse some
+            (IsAtEnd (left_of self.new.start self.new.end self.new.buffer.items (R.told self.new.from).bytes))) }
+        ensures kept { Keeps (left_of self.old.start self.old.end self.old.buffer.items (R.told self.old.from).bytes)
+            (left_of self.new.start self.new.end self.new.buffer.items (R.told self.new.from).bytes) }
         ensures fault { IfErr result (λ e. e ≡ LineFault.Failed) }
         ensures later { (R.told self.old.from).faults ≤ (R.told self.new.from).faults }
         ensures quiet { IfOk result (λ _. (R.told self.new.from).faults ≡ (R.told self.old.from).faults) }
@@ -93,7 +95,8 @@ impl<R: Reads> LineInput<R> {
             (left_of self.old.start self.old.end self.old.buffer.items (R.told self.old.from).bytes)
             (left_of self.new.start self.new.end self.new.buffer.items (R.told self.new.from).bytes)
             into.old.items into.new.items p.length p.ended) }
-        ensures fault { IfErr result (IsPartFault limit seen (left_of self.old.start self.old.end self.old.buffer.items (R.told self.old.from).bytes)) }
+        ensures fault { IfErr result (IsPartFault limit seen
+            (left_of self.old.start self.old.end self.old.buffer.items (R.told self.old.from).bytes)) }
         ensures refused { OnErr result (into.new.items ≡ into.old.items) }
         ensures faults { (R.told self.new.from).faults ≡ (R.told self.old.from).faults }
     {
@@ -128,7 +131,8 @@ impl<R: Reads> LineInput<R> {
             (left_of self.old.start self.old.end self.old.buffer.items (R.told self.old.from).bytes)
             (left_of self.new.start self.new.end self.new.buffer.items (R.told self.new.from).bytes)
             into.old.items into.new.items (Ok some)) }
-        ensures fault { IfErr result (IsLineFault limit (left_of self.old.start self.old.end self.old.buffer.items (R.told self.old.from).bytes)) }
+        ensures fault { IfErr result (IsLineFault limit
+            (left_of self.old.start self.old.end self.old.buffer.items (R.told self.old.from).bytes)) }
         ensures refused { OnErr result (take (vec_len into.old) into.new.items ≡ into.old.items) }
         ensures later { (R.told self.old.from).faults ≤ (R.told self.new.from).faults }
         ensures failed { IsErrOf result LineFault.Failed → Rose (R.told self.old.from).faults (R.told self.new.from).faults }

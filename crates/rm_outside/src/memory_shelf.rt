@@ -48,7 +48,8 @@ impl MemoryShelf {
     /// Adds a name that holds these bytes.
     pub fn hold(&mut self, name: &str, bytes: &[u8]) -> Result<(), OutOfMemory>
         requires { held_of self.old name.now ≡ None }
-        ensures ok { OnOk result ((n : List ℕ) → held_of self.new n ≡ (if bytes_eq name.now n then Some bytes.now else held_of self.old n)) }
+        ensures ok { OnOk result ((n : List ℕ) →
+            held_of self.new n ≡ (if bytes_eq name.now n then Some bytes.now else held_of self.old n)) }
         ensures err { OnErr result ((n : List ℕ) → held_of self.new n ≡ held_of self.old n) }
         ensures faults { shelf_faults self.new ≡ shelf_faults self.old }
         ensures turn { next_fetch self.new ≡ next_fetch self.old }
@@ -89,7 +90,8 @@ impl Shelf for MemoryShelf {
         ensures fetched { GrewBy (name.now ∷ []) (fetched_names self.old) (fetched_names self.new) }
 
         // It fails exactly where it was told to and where the name is not held, and counts that.
-        ensures told_to { IsErrOf result FetchFault.Failed ↔ (Contains (failing_fetches self.old) (next_fetch self.old) ⊎ (held_of self.old name.now ≡ None)) }
+        ensures told_to { IsErrOf result FetchFault.Failed ↔
+            (Contains (failing_fetches self.old) (next_fetch self.old) ⊎ (held_of self.old name.now ≡ None)) }
         ensures count { CountsFailure (shelf_faults self.old) (shelf_faults self.new) result }
         ensures turn { next_fetch self.new ≡ counted (next_fetch self.old) }
         ensures failing { failing_fetches self.new ≡ failing_fetches self.old }
@@ -109,7 +111,8 @@ impl Shelf for MemoryShelf {
 
 // The names with one more behind them, or None where there is no memory for it.
 fn with_name(alloc: Global, fetched: Option<Vec<String>>, name: &str) -> Option<Vec<String>>
-    ensures { GrewBy (name.now ∷ []) (option_map (λ names. map string_bytes names.items) fetched) (option_map (λ names. map string_bytes names.items) result) }
+    ensures { GrewBy (name.now ∷ []) (option_map (λ names. map string_bytes names.items) fetched)
+        (option_map (λ names. map string_bytes names.items) result) }
 {
     let mut names = fetched?;
     let name = String::from_str(alloc, name).ok()?;

@@ -70,7 +70,8 @@ impl Sink for MemorySink {
         ensures failed { OnErr result (Rose (sink_faults self.old) (sink_faults self.new)) }
 
         // It fails unless it was not told to and the bytes fit, and counts that.
-        ensures succeeds { IsOk result ↔ (IsNone (most_of_next self.old) × (length (written_of self.old) + length bytes.now ≤ capacity_of self.old)) }
+        ensures succeeds { IsOk result ↔
+            (IsNone (most_of_next self.old) × (length (written_of self.old) + length bytes.now ≤ capacity_of self.old)) }
         ensures taken { written_of self.new ≡ written_of self.old ++ take (taken_by self.old (length bytes.now)) bytes.now }
         ensures count { CountsErr (sink_faults self.old) (sink_faults self.new) result }
         ensures turn { next_put self.new ≡ counted (next_put self.old) }

@@ -42,7 +42,8 @@ impl<O: Opens> Shelf for OpenShelf<O> {
         ensures by_length { IfSome ((O.told self.old.opens).held name.now) (λ bytes. ByLength limit (length bytes) result) }
         ensures kept { (O.told self.new.opens).held ≡ (O.told self.old.opens).held }
         ensures later { (n : List ℕ) → (O.told self.old.opens).faults n ≤ (O.told self.new.opens).faults n }
-        ensures failed { IsErrOf result FetchFault.Failed → Rose ((O.told self.old.opens).faults name.now) ((O.told self.new.opens).faults name.now) }
+        ensures failed { IsErrOf result FetchFault.Failed →
+            Rose ((O.told self.old.opens).faults name.now) ((O.told self.new.opens).faults name.now) }
         ensures fetched { GrewBy (name.now ∷ []) (O.told self.old.opens).fetched (O.told self.new.opens).fetched }
 
         // The name's count rises at a failure alone.
@@ -131,7 +132,8 @@ fn read_on<O: Opens>(
     into: &mut Vec<u8>,
 ) -> io::Result<Option<usize>>
     requires some { 0 < length buffer.old }
-    ensures read { IfOk result (λ read. IfSome read (ReadsOn (length buffer.old) (O.Opened.remaining opened.old) (O.Opened.remaining opened.new) into.old.items into.new.items)) }
+    ensures read { IfOk result (λ read. IfSome read
+        (ReadsOn (length buffer.old) (O.Opened.remaining opened.old) (O.Opened.remaining opened.new) into.old.items into.new.items)) }
     ensures front { take (vec_len into.old) into.new.items ≡ into.old.items }
     ensures kept { (O.told opens.new).held ≡ (O.told opens.old).held }
     ensures later { (n : List ℕ) → (O.told opens.old).faults n ≤ (O.told opens.new).faults n }
@@ -156,7 +158,8 @@ fn read_in_place<O: Opens>(
 ) -> io::Result<Option<usize>>
     requires some { 0 < most }
     requires room { vec_len into.old + most ≤ vec_capacity into.old }
-    ensures read { IfOk result (λ read. IfSome read (ReadsOn most (O.Opened.remaining opened.old) (O.Opened.remaining opened.new) into.old.items into.new.items)) }
+    ensures read { IfOk result (λ read. IfSome read
+        (ReadsOn most (O.Opened.remaining opened.old) (O.Opened.remaining opened.new) into.old.items into.new.items)) }
     ensures front { take (vec_len into.old) into.new.items ≡ into.old.items }
     ensures kept { (O.told opens.new).held ≡ (O.told opens.old).held }
     ensures later { (n : List ℕ) → (O.told opens.old).faults n ≤ (O.told opens.new).faults n }
@@ -186,7 +189,8 @@ fn read_through<O: Opens>(
     into: &mut Vec<u8>,
 ) -> io::Result<Option<usize>>
     requires some { 0 < length buffer.old }
-    ensures read { IfOk result (λ read. IfSome read (ReadsOn (length buffer.old) (O.Opened.remaining opened.old) (O.Opened.remaining opened.new) into.old.items into.new.items)) }
+    ensures read { IfOk result (λ read. IfSome read
+        (ReadsOn (length buffer.old) (O.Opened.remaining opened.old) (O.Opened.remaining opened.new) into.old.items into.new.items)) }
     ensures front { take (vec_len into.old) into.new.items ≡ into.old.items }
     ensures kept { (O.told opens.new).held ≡ (O.told opens.old).held }
     ensures later { (n : List ℕ) → (O.told opens.old).faults n ≤ (O.told opens.new).faults n }

@@ -21,7 +21,8 @@ pub trait Opens {
 
     /// Opens what has this name, from its first byte on.
     fn open(&mut self, name: &str) -> io::Result<Self::Opened>
-        ensures whole { IfOk result (λ opened. IfSome ((told self.old).held name.now) (λ bytes. Self.Opened.remaining opened ≡ Some bytes)) }
+        ensures whole { IfOk result (λ opened. IfSome ((told self.old).held name.now)
+            (λ bytes. Self.Opened.remaining opened ≡ Some bytes)) }
         ensures kept { (told self.new).held ≡ (told self.old).held }
         ensures later { (n : List ℕ) → (told self.old).faults n ≤ (told self.new).faults n }
         ensures count { CountsErr ((told self.old).faults name.now) ((told self.new).faults name.now) result }

@@ -36,7 +36,8 @@ renewed sign h e m l b0 b1 b2 b3 ds de he em ml in0 in1 in2 first between last =
       front,
       (
         kept ∙ middle ∙ append_assoc (take h b0) ds (sign ∷ []) ∙ ap (λ (xs : List ℕ). xs ++ (ds ++ sign ∷ [])) (sym front),
-        last ∙ ap (λ (xs : List ℕ). xs ++ de) middle ∙ append_assoc (take h b0 ++ ds) (sign ∷ []) de ∙ append_assoc (take h b0) ds (sign ∷ de) ∙ ap (λ (xs : List ℕ). xs ++ (ds ++ sign ∷ de)) (sym front),
+        last ∙ ap (λ (xs : List ℕ). xs ++ de) middle ∙ append_assoc (take h b0 ++ ds) (sign ∷ []) de ∙ append_assoc (take h b0) ds (sign ∷ de) ∙
+            ap (λ (xs : List ℕ). xs ++ (ds ++ sign ∷ de)) (sym front),
       ),
     )
 
@@ -51,7 +52,8 @@ end_renewed sign h m l b0 b3 ds de hm ml in0 half last =
       front,
       (
         kept ∙ half ∙ ap (λ (xs : List ℕ). xs ++ (ds ++ sign ∷ [])) (sym front),
-        last ∙ ap (λ (xs : List ℕ). xs ++ de) half ∙ append_assoc (take h b0) (ds ++ sign ∷ []) de ∙ ap (λ (xs : List ℕ). take h b0 ++ xs) (append_assoc ds (sign ∷ []) de) ∙ ap (λ (xs : List ℕ). xs ++ (ds ++ sign ∷ de)) (sym front),
+        last ∙ ap (λ (xs : List ℕ). xs ++ de) half ∙ append_assoc (take h b0) (ds ++ sign ∷ []) de ∙
+            ap (λ (xs : List ℕ). take h b0 ++ xs) (append_assoc ds (sign ∷ []) de) ∙ ap (λ (xs : List ℕ). xs ++ (ds ++ sign ∷ de)) (sym front),
       ),
     )
 
@@ -90,7 +92,8 @@ take_past (x ∷ xs) ys n =
 pub front_written : (at n end : ℕ) (old new bytes text : List ℕ) → at ≤ length old → at + n ≤ end → take end new ≡ take at old ++ bytes → take n bytes ≡ text → take (at + n) new ≡ take at old ++ text
 front_written at n end old new bytes text inside below is front =
     let same : length (take at old) + n ≡ at + n = omega (arith, length-take-le at old inside) in
-    sym (take-take (at + n) end new below) ∙ ap (take (at + n)) is ∙ ap (λ k. take k (take at old ++ bytes)) (sym same) ∙ take_past (take at old) bytes n ∙ ap (λ (xs : List ℕ). take at old ++ xs) front
+    sym (take-take (at + n) end new below) ∙ ap (take (at + n)) is ∙ ap (λ k. take k (take at old ++ bytes)) (sym same) ∙
+    take_past (take at old) bytes n ∙ ap (λ (xs : List ℕ). take at old ++ xs) front
 
 -- ---- the fields of a line, one by one
 
@@ -136,19 +139,22 @@ room_more texts head heads heads' row row' span e f = ap₂ (λ (hs : List Head)
 head_more : (heads : List Head) (head : Head) (more new whole : List Head) → new ≡ heads ++ head ∷ [] → heads ++ (head ∷ more) ≡ whole → new ++ more ≡ whole
 head_more heads head more new whole is all = ap (λ (xs : List Head). xs ++ more) is ∙ append_assoc heads (head ∷ []) more ∙ all
 
-pub names_more : (heads : List Head) (head : Head) (name : List ℕ) (names names' : List (List ℕ)) (whole new : List Head) → names ≡ name ∷ names' → head ≡ head_with (32 ∷ (name ++ 61 ∷ [])) style.Plain → new ≡ heads ++ head ∷ []
+pub names_more : (heads : List Head) (head : Head) (name : List ℕ) (names names' : List (List ℕ)) (whole new : List Head) → names ≡ name ∷ names' →
+    head ≡ head_with (32 ∷ (name ++ 61 ∷ [])) style.Plain → new ≡ heads ++ head ∷ []
     → heads ++ more_names names ≡ whole → new ++ more_names names' ≡ whole
 names_more heads head name names names' whole new e f g h =
     head_more heads head (more_names names') new whole g
     (ap (λ (x : Head). heads ++ (x ∷ more_names names')) f ∙ sym (ap (λ (ns : List (List ℕ)). heads ++ more_names ns) e) ∙ h)
 
-pub tabs_more : (heads : List Head) (head : Head) (name : List ℕ) (names names' : List (List ℕ)) (whole new : List Head) → names ≡ name ∷ names' → head ≡ head_with (9 ∷ []) style.Plain → new ≡ heads ++ head ∷ []
+pub tabs_more : (heads : List Head) (head : Head) (name : List ℕ) (names names' : List (List ℕ)) (whole new : List Head) → names ≡ name ∷ names' →
+    head ≡ head_with (9 ∷ []) style.Plain → new ≡ heads ++ head ∷ []
     → heads ++ more_tabs names ≡ whole → new ++ more_tabs names' ≡ whole
 tabs_more heads head name names names' whole new e f g h =
     head_more heads head (more_tabs names') new whole g
     (ap (λ (x : Head). heads ++ (x ∷ more_tabs names')) f ∙ sym (ap (λ (ns : List (List ℕ)). heads ++ more_tabs ns) e) ∙ h)
 
-pub members_more : (heads : List Head) (head : Head) (name : List ℕ) (names names' : List (List ℕ)) (whole new : List Head) → names ≡ name ∷ names' → head ≡ member_head 44 name → new ≡ heads ++ head ∷ []
+pub members_more : (heads : List Head) (head : Head) (name : List ℕ) (names names' : List (List ℕ)) (whole new : List Head) → names ≡ name ∷ names' →
+    head ≡ member_head 44 name → new ≡ heads ++ head ∷ []
     → heads ++ more_members names ≡ whole → new ++ more_members names' ≡ whole
 members_more heads head name names names' whole new e f g h =
     head_more heads head (more_members names') new whole g

@@ -19,19 +19,23 @@ field_text name cell rest end rest' e =
     then_end (name ++ 61 ∷ []) cell rest end ∙ append_assoc name (61 ∷ []) (cell ++ (rest ++ end))
     ∙ ap (λ (xs : List ℕ). name ++ 61 ∷ (cell ++ xs)) e ∙ sym (append_assoc name (61 ∷ cell) rest')
 
-more_spans : (doc : List ℕ) (texts : Bool) (names : List (List ℕ)) (row : List (Option Span)) → cells_text doc texts (more_names names) row ++ 10 ∷ [] ≡ more_fields 32 (spans_fields doc texts names row)
+more_spans : (doc : List ℕ) (texts : Bool) (names : List (List ℕ)) (row : List (Option Span)) →
+    cells_text doc texts (more_names names) row ++ 10 ∷ [] ≡ more_fields 32 (spans_fields doc texts names row)
 more_spans doc texts [] row = refl
 more_spans doc texts (name ∷ names) [] = refl
 more_spans doc texts (name ∷ names) (span ∷ row) =
-    ap (λ (xs : List ℕ). 32 ∷ xs) (field_text name (shown doc texts span) (cells_text doc texts (more_names names) row) (10 ∷ []) (more_fields 32 (spans_fields doc texts names row)) (more_spans doc texts names row))
+    ap (λ (xs : List ℕ). 32 ∷ xs) (field_text name (shown doc texts span) (cells_text doc texts (more_names names) row) (10 ∷ [])
+    (more_fields 32 (spans_fields doc texts names row)) (more_spans doc texts names row))
 
-pub kept_spans : (names : List (List ℕ)) (row : List (Option Span)) (doc : List ℕ) (texts : Bool) → length row ≡ length names → kept_text (spans_kept names) row doc texts ≡ spans_text names row doc texts
+pub kept_spans : (names : List (List ℕ)) (row : List (Option Span)) (doc : List ℕ) (texts : Bool) → length row ≡ length names →
+    kept_text (spans_kept names) row doc texts ≡ spans_text names row doc texts
 kept_spans [] row doc texts e = refl
 kept_spans (name ∷ names) [] doc texts e = absurd (omega arith)
 kept_spans (name ∷ names) (span ∷ row) doc texts e =
     field_text name (shown doc texts span) (cells_text doc texts (more_names names) row) (10 ∷ []) (more_fields 32 (spans_fields doc texts names row)) (more_spans doc texts names row)
 
-more_cells : (doc : List ℕ) (texts : Bool) (names : List (List ℕ)) (row : List (Option Span)) → length row ≡ length names → cells_text doc texts (more_tabs names) row ++ 10 ∷ [] ≡ more_fields 9 (map (shown doc texts) row)
+more_cells : (doc : List ℕ) (texts : Bool) (names : List (List ℕ)) (row : List (Option Span)) → length row ≡ length names →
+    cells_text doc texts (more_tabs names) row ++ 10 ∷ [] ≡ more_fields 9 (map (shown doc texts) row)
 more_cells doc texts [] [] e = refl
 more_cells doc texts [] (span ∷ row) e = absurd (omega arith)
 more_cells doc texts (name ∷ names) [] e = absurd (omega arith)

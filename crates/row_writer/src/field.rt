@@ -137,7 +137,8 @@ impl Field {
         requires { at + FIELD_BYTES ≤ length buffer.old }
         ensures head { self.new.head ≡ self.old.head }
         ensures end { result ≤ at + 48 }
-        ensures text { take result buffer.new ≡ take at buffer.old ++ (self.old.head.before ++ (opening self.old.head.style ++ (decimal span.start ++ sign_of self.old.head.style ∷ []))) }
+        ensures text { take result buffer.new ≡ take at buffer.old ++
+            (self.old.head.before ++ (opening self.old.head.style ++ (decimal span.start ++ sign_of self.old.head.style ∷ []))) }
     {
         if span.start != self.span.start {
             self.renew(span);
@@ -150,7 +151,8 @@ impl Field {
     fn put_half(&self, buffer: &mut [u8], at: usize) -> usize
         requires { at + FIELD_BYTES ≤ length buffer.old }
         ensures end { result ≤ at + 48 }
-        ensures text { take result buffer.new ≡ take at buffer.old ++ (self.now.head.before ++ (opening self.now.head.style ++ (decimal self.now.span.start ++ sign_of self.now.head.style ∷ []))) }
+        ensures text { take result buffer.new ≡ take at buffer.old ++
+            (self.now.head.before ++ (opening self.now.head.style ++ (decimal self.now.span.start ++ sign_of self.now.head.style ∷ []))) }
     {
         let _whole = put_bytes(&self.bytes, buffer, at);
         at + self.middle
@@ -225,7 +227,8 @@ impl Field {
         requires room { at + FIELD_BYTES ≤ length buffer.old }
         requires whole { IsTrue self.now.whole }
         ensures end { result ≤ at + 58 }
-        ensures text { take result buffer.new ≡ take at buffer.old ++ (self.now.head.before ++ cell_front self.now.head.style (Some self.now.span)) }
+        ensures text { take result buffer.new ≡ take at buffer.old ++
+            (self.now.head.before ++ cell_front self.now.head.style (Some self.now.span)) }
     {
         let _whole = put_bytes(&self.bytes, buffer, at);
         at + self.len

@@ -39,9 +39,11 @@ pub(crate) fn put_parted(
     ensures end { result.end ≤ at + 64 * length spans.now }
     ensures between { result.front ≤ result.number }
     ensures behind { result.number ≤ result.end }
-    ensures front { take result.front buffer.new ≡ take at buffer.old ++ before_end doc.now (heads_of fields.old) spans.now beside.place beside.span.start }
+    ensures front { take result.front buffer.new ≡ take at buffer.old ++ before_end doc.now (heads_of fields.old)
+        spans.now beside.place beside.span.start }
     ensures number { take result.number buffer.new ≡ take result.front buffer.new ++ decimal beside.span.end }
-    ensures back { take result.end buffer.new ≡ take result.number buffer.new ++ behind_end doc.now (heads_of fields.old) spans.now beside.place }
+    ensures back { take result.end buffer.new ≡ take result.number buffer.new ++ behind_end doc.now
+        (heads_of fields.old) spans.now beside.place }
 {
     let Beside { place, span } = beside;
     let end = put_cells(fields, &spans[..place], 0, doc, buffer, at);
@@ -67,7 +69,8 @@ fn put_cells(
     requires room { at + 64 * length spans.now + 64 ≤ length buffer.old + 64 * from }
     ensures heads { heads_of fields.new ≡ heads_of fields.old }
     ensures end { result + 64 * from ≤ at + 64 * length spans.now }
-    ensures text { take result buffer.new ≡ take at buffer.old ++ cells_text doc.now false (drop from (heads_of fields.old)) (drop from spans.now) }
+    ensures text { take result buffer.new ≡ take at buffer.old ++ cells_text doc.now false
+        (drop from (heads_of fields.old)) (drop from spans.now) }
 {
     let mut end = at;
     for k in from..spans.len() {
@@ -82,7 +85,8 @@ pub(crate) fn open_line(buffer: &[u8], at: usize, parts: Parts, end: usize) -> O
     requires behind { parts.number ≤ end }
     requires between { parts.front ≤ parts.number }
     requires inside { end ≤ length buffer.now }
-    ensures { IfSome result (λ o. o ≡ open_with (take (parts.front - at) (drop at buffer.now)) (take (end - parts.number) (drop parts.number buffer.now))) }
+    ensures { IfSome result (λ o. o ≡ open_with (take (parts.front - at) (drop at buffer.now))
+        (take (end - parts.number) (drop parts.number buffer.now))) }
 {
     OpenLine::of(&buffer[at..parts.front], &buffer[parts.number..end])
 }

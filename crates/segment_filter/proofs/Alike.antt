@@ -41,7 +41,8 @@ module _ (A B : Automaton) (a : TakesNone A) (b : TakesNone B) (starts : (p : �
   some_target X set c h e is =
       let y = Has-map_cases (λ (y : Way). y.marks) (ways_taken X set c) 0 h in
       let k = filter_cases (λ (y : Way). is_among set y.from && bytes.contains y.bytes c) X.ways y.0 y.1 in
-      let r = way_edge X set c y.0 k.0 (among_has set y.0.from (left_true (is_among set y.0.from) (bytes.contains y.0.bytes c) k.1)) (right_true (is_among set y.0.from) (bytes.contains y.0.bytes c) k.1) in
+      let r = way_edge X set c y.0 k.0 (among_has set y.0.from (left_true (is_among set y.0.from) (bytes.contains y.0.bytes c) k.1))
+      (right_true (is_among set y.0.from) (bytes.contains y.0.bytes c) k.1) in
       let there : Has (e ∷ []) r.0 = subst (λ es. Has es r.0) is r.1 in
       elim there as (λ _. (q : ℕ) × Has e.to q) [ inl i ↦ (y.0.to, subst (λ (x : Reach). Has x.to y.0.to) (sym i) r.3) | inr n ↦ absurd n ]
 
@@ -106,7 +107,8 @@ module _ (A B : Automaton) (a : TakesNone A) (b : TakesNone B) (starts : (p : �
   look_up_byte : (d : List ℕ) (sets : List (List ℕ)) (r : LookUp) → Has (look_ups_asked A sets (map byte_read d)) r → (c : ℕ) × (r.ask ≡ byte_read c)
   look_up_byte [] sets r h = absurd h
   look_up_byte (c ∷ d) sets r h =
-      elim (Has-append_cases (map (λ set. let r : LookUp = record { set = set; ask = byte_read c } in r) sets) (look_ups_asked A (next_sets A sets (byte_read c)) (map byte_read d)) r h) as (λ _. (c : ℕ) × (r.ask ≡ byte_read c)) [
+      elim (Has-append_cases (map (λ set. let r : LookUp = record { set = set; ask = byte_read c } in r) sets)
+      (look_ups_asked A (next_sets A sets (byte_read c)) (map byte_read d)) r h) as (λ _. (c : ℕ) × (r.ask ≡ byte_read c)) [
         | inl i ↦ let s = Has-map_cases (λ set. let r : LookUp = record { set = set; ask = byte_read c } in r) sets r i in (c, sym (ap (λ (x : LookUp). x.ask) s.2))
         | inr j ↦ look_up_byte d (next_sets A sets (byte_read c)) r j
       ]

@@ -70,7 +70,8 @@ module _ (names : List VarName) (atom : AtomTree) where
           | inr b ↦ absurd b
         ]
         | inr a ↦ let r = unless_cases t (suc P.count ∷ []) p a in elim r.1 [
-          | inl e ↦ subst (λ x. Has (atom_automaton names atom).ways (idle_way x)) e (after_there s t P (places_lie (opening_of names) (closing_of names) f 1) [] (λ i. 0) r.0 (idle_way (suc P.count)) (inl refl))
+          | inl e ↦ subst (λ x. Has (atom_automaton names atom).ways (idle_way x)) e
+              (after_there s t P (places_lie (opening_of names) (closing_of names) f 1) [] (λ i. 0) r.0 (idle_way (suc P.count)) (inl refl))
           | inr b ↦ absurd b
         ]
       ]

@@ -22,7 +22,8 @@ target_grows new old grew [] to is = is
 target_grows new old grew (r ∷ rs) to is = (is.0, is.1, omega (arith, is.2, grew.0), grew.1 is.0 is.2 ∙ is.3)
 
 -- the edges of a set that was there are the same
-edges_kept : (old new : Tabled) (set b : ℕ) (to : Option ℕ) → new.graph ≡ old.graph → set_at old.sets set ≡ set_at new.sets set → IsTarget new.sets (edges old.graph (set_at old.sets set) (byte_read b)) to →
+edges_kept : (old new : Tabled) (set b : ℕ) (to : Option ℕ) → new.graph ≡ old.graph → set_at old.sets set ≡ set_at new.sets set →
+    IsTarget new.sets (edges old.graph (set_at old.sets set) (byte_read b)) to →
     IsNext new set b new.sets to
 edges_kept old new set b to graph same next =
     subst (λ (s : List ℕ). IsTarget new.sets (edges new.graph s (byte_read b)) to) same

@@ -169,10 +169,11 @@ module _ (A : Automaton) (d : List ℕ) where
           | inl held ↦ held
           | inr more ↦ absurd (no_sets A (map byte_read (drop (suc k) d)) s more)
         ];
-        look_ups = λ r m. elim (subst (λ (ss : List (List ℕ)). Has new.look_ups r ⊎ Has (look_ups_asked A ss (map byte_read (drop (suc k) d))) r) (next_none e) (look_ups_then r m)) as (λ _. Has new.look_ups r) [
-          | inl held ↦ held
-          | inr more ↦ absurd (no_look_ups A (map byte_read (drop (suc k) d)) r more)
-        ];
+        look_ups = λ r m. elim (subst (λ (ss : List (List ℕ)). Has new.look_ups r ⊎ Has (look_ups_asked A ss (map byte_read (drop (suc k) d))) r)
+            (next_none e) (look_ups_then r m)) as (λ _. Has new.look_ups r) [
+              | inl held ↦ held
+              | inr more ↦ absurd (no_look_ups A (map byte_read (drop (suc k) d)) r more)
+            ];
       }
 
   -- ---- what it weighs

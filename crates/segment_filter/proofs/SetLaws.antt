@@ -176,7 +176,8 @@ module _ (new old : Tabled) (d : List ℕ) (k j b : ℕ) (none : TakesNone old.g
               λ m. subst (λ (A : Automaton). IsLed A d (k + 1) q) (sym g.graph)
                   (subst (λ n. IsLed old.graph d n q) more ((next_led q).0 ((edge_leads old.graph none (set_at old.sets j) b e is q).0 (subst (λ s. Has s q) set m)))),
               λ m. subst (λ s. Has s q) (sym set)
-                  ((edge_leads old.graph none (set_at old.sets j) b e is q).1 ((next_led q).1 (subst (λ n. IsLed old.graph d n q) (sym more) (subst (λ (A : Automaton). IsLed A d (k + 1) q) g.graph m)))),
+                  ((edge_leads old.graph none (set_at old.sets j) b e is q).1
+                  ((next_led q).1 (subst (λ n. IsLed old.graph d n q) (sym more) (subst (λ (A : Automaton). IsLed A d (k + 1) q) g.graph m)))),
             ),
           )
 

@@ -105,7 +105,8 @@ impl<'a> DenseTable<'a> {
     ) -> Result<Option<u32>, FilterFault>
         requires { set < length self.old.sets }
         ensures tabled { IsTabled self.new }
-        ensures ok { IfOk result (λ to. (self.new ≡ once_asked self.old (look_up self.old set (byte_read byte))) × IsNext self.old set byte self.new.sets to) }
+        ensures ok { IfOk result (λ to. (self.new ≡ once_asked self.old (look_up self.old set (byte_read byte))) ×
+            IsNext self.old set byte self.new.sets to) }
         ensures err { OnErr result (self.new ≡ self.old) }
         ensures full { IfErr result (λ e. IsFullBy self.old (look_up self.old set (byte_read byte)) e) }
         ensures again { was_asked self.old (look_up self.old set (byte_read byte)) ≡ true → steps.new ≡ steps.old + 1 }
@@ -130,7 +131,8 @@ impl<'a> DenseTable<'a> {
     ) -> Result<Option<u32>, FilterFault>
         requires { set < length self.old.sets }
         ensures tabled { IsTabled self.new }
-        ensures ok { IfOk result (λ to. (self.new ≡ once_asked self.old (look_up self.old set (byte_read byte))) × IsNext self.old set byte self.new.sets to) }
+        ensures ok { IfOk result (λ to. (self.new ≡ once_asked self.old (look_up self.old set (byte_read byte))) ×
+            IsNext self.old set byte self.new.sets to) }
         ensures err { OnErr result (self.new ≡ self.old) }
         ensures full { IfErr result (λ e. IsFullBy self.old (look_up self.old set (byte_read byte)) e) }
         ensures again { was_asked self.old (look_up self.old set (byte_read byte)) ≡ true → steps.new ≡ steps.old + 1 }

@@ -81,7 +81,8 @@ pub(crate) fn meetings<L: Ledger>(
     ensures within { OnOk result (reading_weight table.old.graph doc.now ≤ table.old.limit) }
     ensures full { IfErr result (λ e. IsFullWithin table.old.limit (reading_weight table.old.graph doc.now) e) }
     ensures steps { steps.new ≤ steps.old + length doc.now + size table.old.graph * reading_look_ups table.old.graph doc.now }
-    ensures ok { IfOk result (λ t. (i : ℕ) → Covers t i ↔ ((i ≤ length doc.now) × MeetAt table.old.graph back.now.table.graph most doc.now i)) }
+    ensures ok { IfOk result (λ t. (i : ℕ) →
+        Covers t i ↔ ((i ≤ length doc.now) × MeetAt table.old.graph back.now.table.graph most doc.now i)) }
 {
     let mut touched = Touched::new(alloc);
     let mut seen = Comparisons::new(alloc)?;
@@ -114,7 +115,8 @@ fn meet(
     seen: &mut Comparisons,
 ) -> bool
     requires set { (set < length table.now.sets) × IsInOrder ◌<◌ (set_at table.now.sets set) }
-    requires numbers { behind < length (numbers_of back.now.numbers) → (slice_index (numbers_of back.now.numbers) behind < length back.now.table.sets)
+    requires numbers { behind < length (numbers_of back.now.numbers) →
+        (slice_index (numbers_of back.now.numbers) behind < length back.now.table.sets)
         × IsInOrder ◌<◌ (set_at back.now.table.sets (slice_index (numbers_of back.now.numbers) behind)) }
     requires places { length seen.old.pairs.items ≡ PLACES }
     requires right { AreRemembered most table.now.sets back.now.table.sets seen.old.pairs.items }

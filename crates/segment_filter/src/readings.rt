@@ -36,7 +36,8 @@ impl Readings {
         requires built { IsWellBuilt (tree_of atom.now.formula) }
         requires sequential { IsSequential (tree_of atom.now.formula) }
         requires few { AtMost MOST_VARIABLES (HasVar (tree_of atom.now.formula)) }
-        ensures costs { IfOk result (λ r. CostAs (with_vars [] (tree_of atom.now.formula)) (atom_of atom.now) r.forward.graph r.backward.graph) }
+        ensures costs { IfOk result (λ r. CostAs (with_vars [] (tree_of atom.now.formula)) (atom_of atom.now)
+            r.forward.graph r.backward.graph) }
         ensures meet { IfOk result (λ r. AreReadingsOf (atom_of atom.now) r.forward.graph r.backward.graph r.most) }
     {
         let Ok(marked) = of_atom(alloc, atom) else {

@@ -21,7 +21,8 @@ pub(crate) fn asked_target<L: Ledger>(
 ) -> Result<Option<u32>, FilterFault>
     requires { set < length table.old.sets }
     ensures tabled { IsTabled table.new }
-    ensures ok { IfOk result (λ to. (table.new ≡ once_asked table.old (look_up table.old set (byte_read byte))) × IsNext table.old set byte table.new.sets to) }
+    ensures ok { IfOk result (λ to. (table.new ≡ once_asked table.old (look_up table.old set (byte_read byte))) ×
+        IsNext table.old set byte table.new.sets to) }
     ensures err { OnErr result (table.new ≡ table.old) }
     ensures full { IfErr result (λ e. IsFullBy table.old (look_up table.old set (byte_read byte)) e) }
     ensures again { was_asked table.old (look_up table.old set (byte_read byte)) ≡ true → steps.new ≡ steps.old + 1 }

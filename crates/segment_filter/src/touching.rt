@@ -67,7 +67,8 @@ fn touched_by<L: Ledger>(
     requires backward { TakesNone readings.now.backward.graph }
     requires small { length doc.now < 2 ^ 32 }
     requires limit { limit ≤ 100000000 }
-    ensures ok { IfOk result (λ t. (i : ℕ) → Covers t i ↔ ((i ≤ length doc.now) × MeetAt readings.now.forward.graph readings.now.backward.graph readings.now.most doc.now i)) }
+    ensures ok { IfOk result (λ t. (i : ℕ) →
+        Covers t i ↔ ((i ≤ length doc.now) × MeetAt readings.now.forward.graph readings.now.backward.graph readings.now.most doc.now i)) }
     ensures within { OnOk result (both_weigh readings.now.forward.graph readings.now.backward.graph doc.now ≤ limit) }
     ensures full { IfErr result (λ e. IsFullWithin limit (both_weigh readings.now.forward.graph readings.now.backward.graph doc.now) e) }
     ensures steps { steps.new ≤ steps.old + both_take readings.now.forward.graph readings.now.backward.graph doc.now }
@@ -102,10 +103,12 @@ fn touched_ahead<'r, L: Ledger>(
     requires within { weight back.now.table ≤ limit }
     requires small { length doc.now < 2 ^ 32 }
     requires limit { limit ≤ 100000000 }
-    ensures ok { IfOk result (λ t. (i : ℕ) → Covers t i ↔ ((i ≤ length doc.now) × MeetAt readings.now.forward.graph back.now.table.graph readings.now.most doc.now i)) }
+    ensures ok { IfOk result (λ t. (i : ℕ) →
+        Covers t i ↔ ((i ≤ length doc.now) × MeetAt readings.now.forward.graph back.now.table.graph readings.now.most doc.now i)) }
     ensures within { OnOk result (weight back.now.table + reading_weight readings.now.forward.graph doc.now ≤ limit) }
     ensures full { IfErr result (λ e. IsFullWithin limit (weight back.now.table + reading_weight readings.now.forward.graph doc.now) e) }
-    ensures steps { steps.new ≤ steps.old + (length doc.now + 1 + size readings.now.forward.graph * reading_look_ups readings.now.forward.graph doc.now) }
+    ensures steps { steps.new ≤ steps.old +
+        (length doc.now + 1 + size readings.now.forward.graph * reading_look_ups readings.now.forward.graph doc.now) }
 {
     let spent = back.table.weight();
     let mut ahead = match DenseTable::new(alloc, &readings.forward, limit - spent, steps) {
@@ -131,7 +134,8 @@ fn fault_of(fault: TableFault) -> FilterFault
 
 /// The fault with so much more weight.
 fn heavier(fault: FilterFault, more: u64) -> FilterFault
-    ensures { (limit most other : ℕ) → limit ≤ 100000000 → more ≤ limit → more ≤ other → IsFullWithin (limit - more) most fault → IsFullWithin limit (other + most) result }
+    ensures { (limit most other : ℕ) → limit ≤ 100000000 → more ≤ limit → more ≤ other →
+        IsFullWithin (limit - more) most fault → IsFullWithin limit (other + most) result }
 {
     match fault {
         FilterFault::Full { weight } => FilterFault::Full {

@@ -15,7 +15,8 @@ use std::alloc::Global;
 
 /// The line of a JSON object.
 fn line_of(alloc: Global, members: Map<String, Value>) -> Result<Vec<u8>, OutOfMemory>
-    ensures { IfOk result (λ s. members_have_float (members_view members.entries) ≡ false → s.items ≡ line (compact_text (object (members_view members.entries)))) }
+    ensures { IfOk result (λ s. members_have_float (members_view members.entries) ≡ false →
+        s.items ≡ line (compact_text (object (members_view members.entries)))) }
 {
     let mut line = Value::Object(members).to_vec(alloc)?;
     line.push(b'\n')?;
@@ -32,7 +33,8 @@ pub(crate) fn opened(alloc: Global, id: u32, vars: &VarSet) -> Result<Vec<u8>, O
 
 /// A session was opened, whose rows have the variables of these names.
 fn with_names(alloc: Global, id: u32, names: Vec<Value>) -> Result<Vec<u8>, OutOfMemory>
-    ensures { IfOk result (λ s. items_have_float (items_view names.items) ≡ false → s.items ≡ line (compact_text (names_object id (items_view names.items)))) }
+    ensures { IfOk result (λ s. items_have_float (items_view names.items) ≡ false →
+        s.items ≡ line (compact_text (names_object id (items_view names.items)))) }
 {
     let mut members = Map::new(alloc);
     put(&mut members, alloc, "id", Value::from(id))?;
@@ -63,7 +65,8 @@ fn name_text(name: &Name) -> &str
 
 /// The next rows of a session, as their array, and whether more remain.
 pub(crate) fn given(alloc: Global, id: u32, more: bool, rows: &[u8]) -> Result<Vec<u8>, OutOfMemory>
-    ensures { IfOk result (λ s. (items : Items) → rows.now ≡ compact_text (array items) → s.items ≡ line (compact_text (rows_object id more items))) }
+    ensures { IfOk result (λ s. (items : Items) → rows.now ≡ compact_text (array items) →
+        s.items ≡ line (compact_text (rows_object id more items))) }
 {
     let mut line = Vec::new(alloc);
     push_bytes(b"{\"id\":", &mut line)?;

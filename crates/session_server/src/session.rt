@@ -114,7 +114,8 @@ impl Session {
         steps: &mut Steps<L>,
     ) -> Result<(), Halt>
         requires stands { (s : Spoken) × IsSession (known tests.now J.judges) self.old s }
-        ensures ready { OnOk result ((s : Spoken) → IsSession (known tests.now J.judges) self.old s → (all : List SpanRow) × IsSessionOver (known tests.now J.judges) self.new (asking s) all) }
+        ensures ready { OnOk result ((s : Spoken) → IsSession (known tests.now J.judges) self.old s →
+            (all : List SpanRow) × IsSessionOver (known tests.now J.judges) self.new (asking s) all) }
         ensures halted { IfErr result (λ h. (s : Spoken) → IsSession (known tests.now J.judges) self.old s → IsRowsHalt s h) }
         ensures vars { self.new.vars ≡ self.old.vars }
     {
@@ -131,7 +132,8 @@ impl Session {
         steps: &mut Steps<L>,
     ) -> Result<(), Halt>
         requires stands { (s : Spoken) × IsWaiting (known tests.now J.judges) self.old s }
-        ensures ready { OnOk result ((s : Spoken) → IsWaiting (known tests.now J.judges) self.old s → (all : List SpanRow) × IsSessionOver (known tests.now J.judges) self.new (asking s) all) }
+        ensures ready { OnOk result ((s : Spoken) → IsWaiting (known tests.now J.judges) self.old s →
+            (all : List SpanRow) × IsSessionOver (known tests.now J.judges) self.new (asking s) all) }
         ensures halted { IfErr result (λ h. (s : Spoken) → IsWaiting (known tests.now J.judges) self.old s → IsRowsHalt s h) }
         ensures vars { self.new.vars ≡ self.old.vars }
     {
@@ -220,7 +222,8 @@ impl Session {
     ) -> Result<bool, OutOfMemory>
         requires line { rows.old.line ≡ json_kept self.old.vars }
         requires stands { (s : Spoken) × (all : List SpanRow) × IsSessionOver (known tests.now J.judges) self.old s all }
-        ensures some { IfOk result (λ some. OnTrue some ((s : Spoken) (all : List SpanRow) → IsSessionOver (known tests.now J.judges) self.old s all →
+        ensures some { IfOk result (λ some. OnTrue some ((s : Spoken) (all : List SpanRow) →
+            IsSessionOver (known tests.now J.judges) self.old s all →
             GivesOne (known tests.now J.judges) self.old self.new rows.old.text.items rows.new.text.items s all)) }
         ensures none { IfOk result (λ some. OnFalse some ((rows.new ≡ rows.old) × (self.new ≡ self.old)
             × ((s : Spoken) (all : List SpanRow) → IsSessionOver (known tests.now J.judges) self.old s all → to_come (known tests.now J.judges) s self.old.vars all ≡ []))) }
@@ -372,7 +375,8 @@ fn read_by<L: Ledger>(
     steps: &mut Steps<L>,
 ) -> Result<(Growing, Answers), Halt>
     requires compiled { (q : QueryTree) × IsCompiled q automaton }
-    ensures growing { IfOk result (λ b. (q : QueryTree) → IsCompiled q automaton → IsReadOn q document.now (length document.now ∷ []) automaton.names b.0) }
+    ensures growing { IfOk result (λ b. (q : QueryTree) → IsCompiled q automaton →
+        IsReadOn q document.now (length document.now ∷ []) automaton.names b.0) }
     ensures all { IfOk result (λ b. (q : QueryTree) → IsCompiled q automaton → AreAnswers q document.now automaton.names b.1.rest) }
     ensures halted { IfErr result (λ h. (q : QueryTree) → IsCompiled q automaton → IsStartHalt q document.now h) }
 {

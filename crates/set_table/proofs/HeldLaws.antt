@@ -216,7 +216,11 @@ places_old : (n : ℕ) (numbers : List ℕ) (p : ℕ) → p < length numbers →
 places_old n numbers p l = get_or_append_left numbers (replicate (n - length numbers) 0) 0 p l
 
 pub zeros : (m i : ℕ) → get_or {A = ℕ} (replicate m 0) i 0 ≡ 0
-zeros m i = let Z : List ℕ = replicate m 0 in elim (cases_lt i m) as (λ _. get_or Z i 0 ≡ 0) [ inl l ↦ get_or-replicate {A = ℕ} m i 0 0 l | inr l ↦ get_or_past Z i 0 (omega (arith, l, length-replicate {A = ℕ} m 0)) ]
+zeros m i = let Z : List ℕ = replicate m 0 in elim (cases_lt i m) as (λ _. get_or Z i 0 ≡ 0) [
+  | inl l ↦ get_or-replicate {A = ℕ} m i 0 0 l
+  | inr l ↦
+      get_or_past Z i 0 (omega (arith, l, length-replicate {A = ℕ} m 0))
+]
 
 places_new : (n : ℕ) (numbers : List ℕ) (p : ℕ) → length numbers ≤ p → get_or (with_places n numbers) p 0 ≡ 0
 places_new n numbers p l = get_or-append_right numbers (replicate (n - length numbers) 0) p 0 l ∙ zeros (n - length numbers) (p - length numbers)
@@ -361,7 +365,19 @@ module _ (A : Automaton) (before after : Lists) (answers0 : List Answer) (number
   first_weighs limit = weighs_more ∙ ap weight (first_is limit)
 
   pub few_more : length sets + length (answers0 ++ x ∷ []) + length es + length ends ≤ w0 + w
-  few_more = let e = ap sets_weight longer.1 in omega (arith, held.few, adds.few, adds.weighs, ap length longer.1, length-append sets0 longer.0, e, sum_by-append (λ s. 1 + length s) sets0 longer.0, length_weight longer.0, length-append answers0 (x ∷ []))
+  few_more = let e = ap sets_weight longer.1 in
+      omega (
+        arith,
+        held.few,
+        adds.few,
+        adds.weighs,
+        ap length longer.1,
+        length-append sets0 longer.0,
+        e,
+        sum_by-append (λ s. 1 + length s) sets0 longer.0,
+        length_weight longer.0,
+        length-append answers0 (x ∷ []),
+      )
 
   pub held_more : IsHeld A sets (answers0 ++ x ∷ []) es ends Numbers (w0 + w)
   held_more = record {
@@ -393,14 +409,16 @@ held_fresh A sets answers es ends numbers start w whole is one no_answers no_edg
       places = ap length zero_numbers ∙ (places_length 272 [] (omega arith) ∙ (let e : 272 ≡ 272 * length sets = omega (arith, ap length one) in e));
       found = λ k q i l h e. let z : 0 ≡ suc i = sym (none (place_in k q)) ∙ e in absurd (omega (arith, z));
       there = λ i x e. absurd (let h = Has-slice_get answers i x e in subst (λ (zs : List Answer). Has zs x) no_answers h);
-      weighs = let a = ap sets_weight one in let b = sum_cons (λ (s : List ℕ). 1 + length s) start [] in let c : look_ups_weight A (look_ups_of sets answers) ≡ 0 = ap (λ (zs : List Answer). look_ups_weight A (look_ups_of sets zs)) no_answers in omega (arith, a, b, c, weight);
+      weighs = let a = ap sets_weight one in let b = sum_cons (λ (s : List ℕ). 1 + length s) start [] in
+          let c : look_ups_weight A (look_ups_of sets answers) ≡ 0 = ap (λ (zs : List Answer). look_ups_weight A (look_ups_of sets zs)) no_answers in omega (arith, a, b, c, weight);
       few = omega (arith, ap length one, ap length no_answers, ap length no_edges, ap length no_ends, weight);
     }
 
 -- ---- the number of a question
 
 pub number_found : (A : Automaton) (sets : List (List ℕ)) (answers : List Answer) (es : List Edge) (ends numbers : List ℕ) (w k : ℕ) (q : TableQuestion) (n : ℕ) →
-    IsHeld A sets answers es ends numbers w → k < length sets → IsQuestion q → get_or numbers (place_in k q) 0 ≡ n → (n ≡ 0 → ⊥) → slice_get (look_ups_of sets answers) (n - 1) ≡ Some (record { set = set_at sets k; ask = question_of q })
+    IsHeld A sets answers es ends numbers w → k < length sets → IsQuestion q → get_or numbers (place_in k q) 0 ≡ n → (n ≡ 0 → ⊥) →
+    slice_get (look_ups_of sets answers) (n - 1) ≡ Some (record { set = set_at sets k; ask = question_of q })
 number_found A sets answers es ends numbers w k q n held l h e some =
     let less : 0 < n = positive n some in
     let at : get_or numbers (place_in k q) 0 ≡ suc (n - 1) = e ∙ (let g : n ≡ suc (n - 1) = omega (arith, less) in g) in
@@ -500,7 +518,8 @@ pub edges_within : (A : Automaton) (sets : List (List ℕ)) (answers : List Answ
 edges_within A sets answers es ends numbers w x held h o = let a = held.answered x h in let e = edged sets es ends x.question x.first x.count o in omega (arith, a.within, e.1)
 
 pub edges_are : (A : Automaton) (limit : ℕ) (sets : List (List ℕ)) (answers : List Answer) (es : List Edge) (ends numbers : List ℕ) (w : ℕ) (x : Answer) (cs : List Edge) →
-    IsHeld A sets answers es ends numbers w → Has answers x → (x.question ≡ Ends → ⊥) → cs ≡ part x.first x.count es → HasEdges (record { graph = A; limit = limit; sets = sets; look_ups = look_ups_of sets answers }) (look_up_of sets x) cs
+    IsHeld A sets answers es ends numbers w → Has answers x → (x.question ≡ Ends → ⊥) → cs ≡ part x.first x.count es →
+    HasEdges (record { graph = A; limit = limit; sets = sets; look_ups = look_ups_of sets answers }) (look_up_of sets x) cs
 edges_are A limit sets answers es ends numbers w x cs held h o is =
     let a = held.answered x h in
     let e = edged sets es ends x.question x.first x.count o in
@@ -514,7 +533,8 @@ edges_are A limit sets answers es ends numbers w x cs held h o is =
 marks_down : (ms : List ℕ) → IsInOrder Above (map (λ (e : Reach). e.marks) (map end_reach ms)) → IsInOrder (λ (m n : ℕ). n < m) ms
 marks_down ms h = subst (IsInOrder Above) (marks_of_all end_reach (λ m. refl) ms) h
 
-ended_in : (sets : List (List ℕ)) (es : List Edge) (ends : List ℕ) (q : TableQuestion) (f c : ℕ) → q ≡ Ends → (answer_in sets es ends q f c ≡ map end_reach (part f c ends)) × (room es ends q ≡ length ends)
+ended_in : (sets : List (List ℕ)) (es : List Edge) (ends : List ℕ) (q : TableQuestion) (f c : ℕ) → q ≡ Ends →
+    (answer_in sets es ends q f c ≡ map end_reach (part f c ends)) × (room es ends q ≡ length ends)
 ended_in sets es ends (Byte b) f c h = absurd (cc)
 ended_in sets es ends Rest f c h = absurd (cc)
 ended_in sets es ends Ends f c h = (refl, refl)
@@ -524,7 +544,8 @@ pub ends_within : (A : Automaton) (sets : List (List ℕ)) (answers : List Answe
 ends_within A sets answers es ends numbers w x held h o = let a = held.answered x h in let e = ended_in sets es ends x.question x.first x.count o in omega (arith, a.within, e.1)
 
 pub ends_are : (A : Automaton) (limit : ℕ) (sets : List (List ℕ)) (answers : List Answer) (es : List Edge) (ends numbers : List ℕ) (w : ℕ) (x : Answer) (ms : List ℕ) →
-    IsHeld A sets answers es ends numbers w → Has answers x → x.question ≡ Ends → ms ≡ part x.first x.count ends → HasEnds (record { graph = A; limit = limit; sets = sets; look_ups = look_ups_of sets answers }) (look_up_of sets x) ms
+    IsHeld A sets answers es ends numbers w → Has answers x → x.question ≡ Ends → ms ≡ part x.first x.count ends →
+    HasEnds (record { graph = A; limit = limit; sets = sets; look_ups = look_ups_of sets answers }) (look_up_of sets x) ms
 ends_are A limit sets answers es ends numbers w x ms held h o is =
     let a = held.answered x h in
     let e = ended_in sets es ends x.question x.first x.count o in
@@ -555,7 +576,8 @@ rest_is_one (p ∷ ps) r rs e = ((let f : r ≡ record { marks = 0; to = p ∷ p
     differ : p ∷ ps ≡ [] → ⊥
     differ f = cc
 
-pub some_rest : (t : Tabled) (k : ℕ) (es : List Edge) (f : Edge) → HasEdges t (look_up t k rest_taken) es → (length es ≡ 0 → ⊥) → f ≡ get_or es 0 f → (slice_get t.sets f.to ≡ Some (idle_of t k)) × (idle_of t k ≡ [] → ⊥)
+pub some_rest : (t : Tabled) (k : ℕ) (es : List Edge) (f : Edge) → HasEdges t (look_up t k rest_taken) es → (length es ≡ 0 → ⊥) → f ≡ get_or es 0 f →
+    (slice_get t.sets f.to ≡ Some (idle_of t k)) × (idle_of t k ≡ [] → ⊥)
 some_rest t k [] f h o at = absurd (o refl)
 some_rest t k (e ∷ es) f h o at =
     let r = rest_is_one (idle_of t k) (edge_named t.sets e) (map (edge_named t.sets) es) h.named in

@@ -18,7 +18,8 @@ pub weight_with : (sets new : List (List ℕ)) (s : List ℕ) (n w : ℕ) → ne
     ((length new ≡ length sets) × (w ≡ 1)) ⊎ ((length new ≡ length sets → ⊥) × (w ≡ 2 + n)) → sets_weight new + 1 ≡ sets_weight sets + w
 weight_with sets new s n w is len case = go (with_set_cases sets s) case
   where
-    go : (with_set sets s ≡ sets) ⊎ (with_set sets s ≡ sets ++ s ∷ []) → ((length new ≡ length sets) × (w ≡ 1)) ⊎ ((length new ≡ length sets → ⊥) × (w ≡ 2 + n)) → sets_weight new + 1 ≡ sets_weight sets + w
+    go : (with_set sets s ≡ sets) ⊎ (with_set sets s ≡ sets ++ s ∷ []) →
+        ((length new ≡ length sets) × (w ≡ 1)) ⊎ ((length new ≡ length sets → ⊥) × (w ≡ 2 + n)) → sets_weight new + 1 ≡ sets_weight sets + w
     go (inl e) (inl k) = let h = ap sets_weight (is ∙ e) in omega (arith, h, k.1)
     go (inl e) (inr k) = absurd (k.0 (ap length (is ∙ e)))
     go (inr e) (inl k) = let h : length new ≡ length (sets ++ s ∷ []) = ap length (is ∙ e) in absurd (omega (arith, h, k.0, length-append sets (s ∷ [])))

@@ -84,7 +84,8 @@ spread_kept runs more numbers s kept = record {
   own = λ i j e p. by_own i j e p (kept i) (kept j);
 }
   where
-    by_own : (i j : ℕ) → get_or more i 0 ≡ get_or more j 0 → 0 < get_or more i 0 → (get_or more i 0 ≡ get_or runs i 0) ⊎ (get_or more i 0 ≡ 0) → (get_or more j 0 ≡ get_or runs j 0) ⊎ (get_or more j 0 ≡ 0) → i ≡ j
+    by_own : (i j : ℕ) → get_or more i 0 ≡ get_or more j 0 → 0 < get_or more i 0 → (get_or more i 0 ≡ get_or runs i 0) ⊎ (get_or more i 0 ≡ 0) →
+        (get_or more j 0 ≡ get_or runs j 0) ⊎ (get_or more j 0 ≡ 0) → i ≡ j
     by_own i j e p (inl a) (inl b) = s.own i j (sym a ∙ (e ∙ b)) (omega (arith, a, p))
     by_own i j e p (inl a) (inr b) = absurd (omega (arith, e, b, p))
     by_own i j e p (inr a) b = absurd (omega (arith, a, p))
@@ -224,10 +225,12 @@ module _ (runs numbers : List ℕ) (p n : ℕ) (s : IsSpread runs numbers) (with
   written_is =
       let w = are_within runs numbers s in
       let len = spread_length runs numbers w in
-      spread_same runs (set numbers Here n) (set (spread runs numbers) p n) (are_within runs (set numbers Here n) written) (omega (arith, len, length-set {A = ℕ} (spread runs numbers) p n)) (λ i j h m.
+      spread_same runs (set numbers Here n) (set (spread runs numbers) p n) (are_within runs (set numbers Here n) written)
+      (omega (arith, len, length-set {A = ℕ} (spread runs numbers) p n)) (λ i j h m.
       by i j h m (same_or_not (16 * i + j) p))
     where
-      by : (i j : ℕ) → i < length runs → j < 16 → (16 * i + j ≡ p) ⊎ (16 * i + j ≡ p → ⊥) → get_or (set numbers Here n) (16 * get_or runs i 0 + j) 0 ≡ get_or (set (spread runs numbers) p n) (16 * i + j) 0
+      by : (i j : ℕ) → i < length runs → j < 16 → (16 * i + j ≡ p) ⊎ (16 * i + j ≡ p → ⊥) →
+          get_or (set numbers Here n) (16 * get_or runs i 0 + j) 0 ≡ get_or (set (spread runs numbers) p n) (16 * i + j) 0
       by i j l m (inl e) =
           let split = place_split p in
           let run : i ≡ p / 16 = omega (arith, e, m, split) in

@@ -53,7 +53,8 @@ one_to es k d e = (ap (λ (fs : List Edge). (get_or fs 0 d).to) e, ap (λ (fs : 
 -- ---- an answer more
 
 pub same_stays : (A : Automaton) (limit : ℕ) (sets sets' : List (List ℕ)) (answers answers' : List Answer) (stays : List (bytes.FinSet nat_cmp)) → sets ≡ sets' → answers ≡ answers' →
-    AreStays (record { graph = A; limit = limit; sets = sets; look_ups = look_ups_of sets answers }) stays → AreStays (record { graph = A; limit = limit; sets = sets'; look_ups = look_ups_of sets' answers' }) stays
+    AreStays (record { graph = A; limit = limit; sets = sets; look_ups = look_ups_of sets answers }) stays →
+    AreStays (record { graph = A; limit = limit; sets = sets'; look_ups = look_ups_of sets' answers' }) stays
 same_stays A limit sets sets' answers answers' stays a b h =
     subst (λ (xs : List Answer). AreStays (record { graph = A; limit = limit; sets = sets'; look_ups = look_ups_of sets' xs }) stays) b
     (subst (λ (xs : List (List ℕ)). AreStays (record { graph = A; limit = limit; sets = xs; look_ups = look_ups_of xs answers }) stays) a h)
@@ -119,7 +120,8 @@ module _ (A : Automaton) (limit : ℕ) (sets0 sets : List (List ℕ)) (answers0 
       let question : y.0.question ≡ Byte h.byte = same_question y.0.question (Byte h.byte) (ap (λ (r : LookUp). r.ask) y.2) in
       by y.0 set question (Has-append_cases answers0 (x ∷ []) y.0 y.1)
     where
-      by : (y : Answer) → y.set ≡ k → y.question ≡ Byte h.byte → Has answers0 y ⊎ Has (x ∷ []) y → ((k < length sets0) × HasStayed Old k) ⊎ ((x.set ≡ k) × (c : ℕ) × (x.question ≡ Byte c) × LeadsBack es x)
+      by : (y : Answer) → y.set ≡ k → y.question ≡ Byte h.byte → Has answers0 y ⊎ Has (x ∷ []) y →
+          ((k < length sets0) × HasStayed Old k) ⊎ ((x.set ≡ k) × (c : ℕ) × (x.question ≡ Byte c) × LeadsBack es x)
       by y set question (inl m) =
           let n : k < length sets0 = omega (arith, before y m, set) in
           let told : look_up_of sets0 y ≡ look_up Old k (byte_read h.byte) = (λ i. let r : LookUp = record { set = set_at sets0 (set i); ask = question_of (question i) } in r) in
@@ -141,7 +143,8 @@ module _ (A : Automaton) (limit : ℕ) (sets0 sets : List (List ℕ)) (answers0 
         stays = stays_there New x.set c (part x.first x.count es) has leads;
       }
 
-  pub stays_more : (stays0 stays1 stays : Sets) (noted : bytes.FinSet nat_cmp) → AreStays Old stays0 → ((k : ℕ) → get_or stays1 k bytes.empty ≡ get_or stays0 k bytes.empty) → length stays1 ≡ length sets →
+  pub stays_more : (stays0 stays1 stays : Sets) (noted : bytes.FinSet nat_cmp) → AreStays Old stays0 →
+      ((k : ℕ) → get_or stays1 k bytes.empty ≡ get_or stays0 k bytes.empty) → length stays1 ≡ length sets →
       IsNoted A sets es x (get_or stays1 x.set bytes.empty) noted → stays ≡ put stays1 x.set noted → length stays ≡ length stays1 → AreStays New stays
   stays_more stays0 stays1 stays noted old longer count told is same_count = record { count = same_count ∙ count; are = λ k b l. each k b l (same_or_not k x.set) }
     where

@@ -107,7 +107,8 @@ in_union s t b = (
 
 -- it leads to the member at k
 pub gathered_at : (members : List ℕ) (y : Way) (old new : Leading) (k : ℕ) (s u : bytes.FinSet nat_cmp) → IsInOrder ◌<◌ members → k < length members → get_or members k 0 ≡ y.to → y.marks ≡ 0 →
-    s ≡ get_or old.to_members.items k s → u ≡ bytes.union s y.bytes → new.to_members.items ≡ put old.to_members.items k u → new.elsewhere ≡ old.elsewhere → length new.to_members.items ≡ length old.to_members.items →
+    s ≡ get_or old.to_members.items k s → u ≡ bytes.union s y.bytes → new.to_members.items ≡ put old.to_members.items k u →
+    new.elsewhere ≡ old.elsewhere → length new.to_members.items ≡ length old.to_members.items →
     (ways : List Way) → AreGathered members ways old → AreGathered members (ways ++ y ∷ []) new
 gathered_at members y old new k s u up within at marks read union is same_else same_count ways g = record {
   count = same_count ∙ g.count;
@@ -124,7 +125,8 @@ gathered_at members y old new k s u up within at marks read union is same_else s
     within_old : k < length old.to_members.items
     within_old = omega (arith, within, g.count)
 
-    each : (j b : ℕ) → j < length members → ¬ GoesElsewhere ways members b → (j ≡ k) ⊎ (j ≡ k → ⊥) → IsTrue (bytes.contains (get_or new.to_members.items j bytes.empty) b) ↔ GoesTo (ways ++ y ∷ []) (get_or members j 0) b
+    each : (j b : ℕ) → j < length members → ¬ GoesElsewhere ways members b → (j ≡ k) ⊎ (j ≡ k → ⊥) →
+        IsTrue (bytes.contains (get_or new.to_members.items j bytes.empty) b) ↔ GoesTo (ways ++ y ∷ []) (get_or members j 0) b
     each j b l clear (inl e) =
         let here : get_or new.to_members.items j bytes.empty ≡ bytes.union s y.bytes =
         ap (λ v. get_or new.to_members.items v bytes.empty) e ∙ (ap (λ v. get_or v k bytes.empty) is ∙ (get_or-set_same old.to_members.items k u bytes.empty within_old ∙ union)) in
@@ -134,13 +136,15 @@ gathered_at members y old new k s u up within at marks read union is same_else s
             | inl f ↦ to_before members ways y (get_or members j 0) b ((g.to_members j b l clear).0 (ap (λ v. bytes.contains v b) before ∙ f))
             | inr f ↦ to_here members ways y (get_or members j 0) b f marks to
           ]),
-          (λ h. ap (λ v. bytes.contains v b) here ∙ (in_union s y.bytes b).1 (elim (to_more members ways y (get_or members j 0) b h) as (λ _. IsTrue (bytes.contains s b) ⊎ IsTrue (bytes.contains y.bytes b)) [
-            | inl f ↦ inl (sym (ap (λ v. bytes.contains v b) before) ∙ (g.to_members j b l clear).1 f)
-            | inr f ↦ inr f.0
-          ])),
+          (λ h. ap (λ v. bytes.contains v b) here ∙
+              (in_union s y.bytes b).1 (elim (to_more members ways y (get_or members j 0) b h) as (λ _. IsTrue (bytes.contains s b) ⊎ IsTrue (bytes.contains y.bytes b)) [
+                | inl f ↦ inl (sym (ap (λ v. bytes.contains v b) before) ∙ (g.to_members j b l clear).1 f)
+                | inr f ↦ inr f.0
+              ])),
         )
     each j b l clear (inr other) =
-        let same : get_or new.to_members.items j bytes.empty ≡ get_or old.to_members.items j bytes.empty = ap (λ v. get_or v j bytes.empty) is ∙ get_or-set_other old.to_members.items k j u bytes.empty other in (
+        let same : get_or new.to_members.items j bytes.empty ≡ get_or old.to_members.items j bytes.empty = ap (λ v. get_or v j bytes.empty) is ∙
+        get_or-set_other old.to_members.items k j u bytes.empty other in (
           (λ t. to_before members ways y (get_or members j 0) b ((g.to_members j b l clear).0 (sym (ap (λ v. bytes.contains v b) same) ∙ t))),
           (λ h. ap (λ v. bytes.contains v b) same ∙ elim (to_more members ways y (get_or members j 0) b h) as (λ _. IsTrue (bytes.contains (get_or old.to_members.items j bytes.empty) b)) [
             | inl f ↦ (g.to_members j b l clear).1 f
@@ -155,7 +159,8 @@ gathered_elsewhere members y old new out is union ways g = record {
   count = ap length is ∙ g.count;
   to_members = λ j b l clear.
       let clear_before : ¬ GoesElsewhere ways members b = λ h. clear (else_before members ways y b h) in
-      let same : bytes.contains (get_or new.to_members.items j bytes.empty) b ≡ bytes.contains (get_or old.to_members.items j bytes.empty) b = ap (λ v. bytes.contains (get_or v j bytes.empty) b) is in (
+      let same : bytes.contains (get_or new.to_members.items j bytes.empty) b ≡ bytes.contains (get_or old.to_members.items j bytes.empty) b =
+      ap (λ v. bytes.contains (get_or v j bytes.empty) b) is in (
         (λ t. to_before members ways y (get_or members j 0) b ((g.to_members j b l clear_before).0 (sym same ∙ t))),
         (λ h. same ∙ elim (to_more members ways y (get_or members j 0) b h) as (λ _. IsTrue (bytes.contains (get_or old.to_members.items j bytes.empty) b)) [
           | inl f ↦ (g.to_members j b l clear_before).1 f
@@ -167,15 +172,17 @@ gathered_elsewhere members y old new out is union ways g = record {
       | inl f ↦ else_before members ways y b ((g.elsewhere b).0 f)
       | inr f ↦ else_here members ways y b f out
     ]),
-    (λ h. ap (λ v. bytes.contains v b) union ∙ (in_union old.elsewhere y.bytes b).1 (elim (else_more members ways y b h) as (λ _. IsTrue (bytes.contains old.elsewhere b) ⊎ IsTrue (bytes.contains y.bytes b)) [
-      | inl f ↦ inl ((g.elsewhere b).1 f)
-      | inr f ↦ inr f.0
-    ])),
+    (λ h. ap (λ v. bytes.contains v b) union ∙
+        (in_union old.elsewhere y.bytes b).1 (elim (else_more members ways y b h) as (λ _. IsTrue (bytes.contains old.elsewhere b) ⊎ IsTrue (bytes.contains y.bytes b)) [
+          | inl f ↦ inl ((g.elsewhere b).1 f)
+          | inr f ↦ inr f.0
+        ])),
   );
 }
 
 -- no way
-pub gathered_none : (members : List ℕ) (x : Leading) → length x.to_members.items ≡ length members → ((k : ℕ) → get_or x.to_members.items k bytes.empty ≡ bytes.empty) → x.elsewhere ≡ bytes.empty → AreGathered members [] x
+pub gathered_none : (members : List ℕ) (x : Leading) → length x.to_members.items ≡ length members →
+    ((k : ℕ) → get_or x.to_members.items k bytes.empty ≡ bytes.empty) → x.elsewhere ≡ bytes.empty → AreGathered members [] x
 gathered_none members x count none nowhere = record {
   count = count;
   to_members = λ k b l clear. ((λ t. absurd (differ (sym (ap (λ v. bytes.contains v b) (none k) ∙ contains-empty nat_cmp b) ∙ t))), (λ h. absurd h.1));
@@ -303,19 +310,22 @@ from_all A members y = (
 )
 
 -- a search for the state that a way leads to
-pub none_at : (members : List ℕ) (y : Way) (r : Result ℕ ℕ) → MatchResult r (λ i. (i < length members) × (get_or members i 0 ≡ y.to)) (λ _. Has members y.to → ⊥) → IfNone (result_ok r) (IsInside members y → ⊥)
+pub none_at : (members : List ℕ) (y : Way) (r : Result ℕ ℕ) →
+    MatchResult r (λ i. (i < length members) × (get_or members i 0 ≡ y.to)) (λ _. Has members y.to → ⊥) → IfNone (result_ok r) (IsInside members y → ⊥)
 none_at members y (Ok i) h = tt
 none_at members y (Err i) h = λ inside. h inside.1
 
 -- ways that were gathered one by one
-pub gathered_more : (members : List ℕ) (ways before : List Way) (i : ℕ) (y : Way) (x : Leading) → i < length ways → y ≡ get_or ways i y → AreGathered members ((before ++ take i ways) ++ y ∷ []) x → AreGathered members (before ++ take (i + 1) ways) x
+pub gathered_more : (members : List ℕ) (ways before : List Way) (i : ℕ) (y : Way) (x : Leading) → i < length ways → y ≡ get_or ways i y →
+    AreGathered members ((before ++ take i ways) ++ y ∷ []) x → AreGathered members (before ++ take (i + 1) ways) x
 gathered_more members ways before i y x l at =
     subst (λ (zs : List Way). AreGathered members zs x) (append_assoc before (take i ways) (y ∷ []) ∙ ap (λ zs. before ++ zs) (ap (λ z. take i ways ++ z ∷ []) at ∙ sym (take_more ways i y l)))
 
 pub gathered_from : (A : Automaton) (members : List ℕ) (i q : ℕ) (x : Leading) → i < length members → q ≡ get_or members i 0 →
     AreGathered members (flat_map (ways_from A.ways) (take i members) ++ ways_from A.ways q) x → AreGathered members (flat_map (ways_from A.ways) (take (i + 1) members)) x
 gathered_from A members i q x l at =
-    subst (λ (zs : List Way). AreGathered members zs x) (ap (λ p. flat_map (ways_from A.ways) (take i members) ++ ways_from A.ways p) at ∙ (flat_map_more (ways_from A.ways) [] (take i members) (get_or members i 0) ∙ ap (flat_map (ways_from A.ways)) (sym (take_more members i 0 l))))
+    subst (λ (zs : List Way). AreGathered members zs x) (ap (λ p. flat_map (ways_from A.ways) (take i members) ++ ways_from A.ways p) at ∙
+    (flat_map_more (ways_from A.ways) [] (take i members) (get_or members i 0) ∙ ap (flat_map (ways_from A.ways)) (sym (take_more members i 0 l))))
 
 abbrev from_member : List ℕ → Way → Bool
 from_member members y = is_among members y.from
@@ -331,7 +341,8 @@ pub passed_among : (members : List ℕ) (ways : List Way) (i : ℕ) (y : Way) (x
     AreGathered members (filter (λ (y : Way). is_among members y.from) (take i ways)) x → AreGathered members (filter (λ (y : Way). is_among members y.from) (take (i + 1) ways)) x
 passed_among members ways i y x l at is =
     subst (λ (zs : List Way). AreGathered members zs x)
-    (sym (filter_more (from_member members) ways i y l ∙ (ap (λ b. filter (from_member members) (take i ways) ++ cond b (get_or ways i y ∷ []) []) (ap (from_member members) (sym at) ∙ is) ∙ append-nil (filter (from_member members) (take i ways)))))
+    (sym (filter_more (from_member members) ways i y l ∙
+    (ap (λ b. filter (from_member members) (take i ways) ++ cond b (get_or ways i y ∷ []) []) (ap (from_member members) (sym at) ∙ is) ∙ append-nil (filter (from_member members) (take i ways)))))
 
 -- the meet of sets, one by one
 pub met_more : (xs : Sets) (n : ℕ) (x s t : bytes.FinSet nat_cmp) → n < length xs → x ≡ get_or xs n x → t ≡ bytes.intersection s x → AreMet xs n s → AreMet xs (n + 1) t
@@ -350,7 +361,8 @@ met_more xs n x s t l read meet h b = (there, back)
           before.0,
           λ k m. elim (cases_lt k n) as (λ _. IsTrue (bytes.contains (get_or xs k bytes.empty) b)) [
             | inl less ↦ before.1 k less
-            | inr more ↦ subst (λ v. IsTrue (bytes.contains (get_or xs v bytes.empty) b)) (at k m more) (sym (ap (λ v. bytes.contains v b) here) ∙ right_true (bytes.contains s b) (bytes.contains x b) j)
+            | inr more ↦ subst (λ v. IsTrue (bytes.contains (get_or xs v bytes.empty) b)) (at k m more) (sym (ap (λ v. bytes.contains v b) here) ∙
+                right_true (bytes.contains s b) (bytes.contains x b) j)
           ],
         )
       where
@@ -378,7 +390,8 @@ in_difference s e t b is = (
     by false f n = refl
 
 -- a run of ways whose bytes lead elsewhere already may be passed over
-pub gathered_skipped : (members : List ℕ) (before run : List Way) (bound : ByteClass) (x : Leading) → Bounds bound run → bytes.difference bound x.elsewhere ≡ bytes.empty → AreGathered members before x →
+pub gathered_skipped : (members : List ℕ) (before run : List Way) (bound : ByteClass) (x : Leading) → Bounds bound run →
+    bytes.difference bound x.elsewhere ≡ bytes.empty → AreGathered members before x →
     AreGathered members (before ++ run) x
 gathered_skipped members before run bound x bounds none g = record {
   count = g.count;

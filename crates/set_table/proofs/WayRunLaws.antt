@@ -59,7 +59,8 @@ AreLaid ways runs rest = (more : List ByteClass) → AreRuns rest more → AreRu
 pub laid_none : (ways : List Way) (runs : List ByteClass) → runs ≡ [] → AreLaid ways runs ways
 laid_none ways runs none more h = subst (λ (rs : List ByteClass). AreRuns ways (rs ++ more)) (sym none) h
 
-pub laid_more : (ways rest behind : List Way) (runs new : List ByteClass) (s : ByteClass) → AreLaid ways runs rest → Bounds s (take 64 rest) → behind ≡ drop 64 rest → new ≡ runs ++ s ∷ [] → AreLaid ways new behind
+pub laid_more : (ways rest behind : List Way) (runs new : List ByteClass) (s : ByteClass) → AreLaid ways runs rest → Bounds s (take 64 rest) →
+    behind ≡ drop 64 rest → new ≡ runs ++ s ∷ [] → AreLaid ways new behind
 laid_more ways rest behind runs new s h b left is more m =
     subst (AreRuns ways) (sym (ap (λ (rs : List ByteClass). rs ++ more) is ∙ append_assoc runs (s ∷ []) more)) (h (s ∷ more) (b, subst (λ (ys : List Way). AreRuns ys more) left m))
 
@@ -68,7 +69,8 @@ laid_all ways rest runs h none = subst (AreRuns ways) (append-nil runs) (h [] no
 
 -- ---- runs that are read
 
-pub runs_next : (rest : List Way) (runs : List ByteClass) (i : ℕ) (s : ByteClass) → i < length runs → s ≡ get_or runs i s → AreRuns rest (drop i runs) → Bounds s (take 64 rest) × AreRuns (drop 64 rest) (drop (i + 1) runs)
+pub runs_next : (rest : List Way) (runs : List ByteClass) (i : ℕ) (s : ByteClass) → i < length runs → s ≡ get_or runs i s →
+    AreRuns rest (drop i runs) → Bounds s (take 64 rest) × AreRuns (drop 64 rest) (drop (i + 1) runs)
 runs_next rest runs i s l at h = subst (AreRuns rest) (drop_more runs i s l ∙ ap (λ (r : ByteClass). r ∷ drop (i + 1) runs) (sym at)) h
 
 pub runs_end : (rest : List Way) (runs : List ByteClass) (i : ℕ) → length runs ≤ i → AreRuns rest (drop i runs) → rest ≡ []
@@ -92,17 +94,21 @@ none_taken s b (y ∷ ways) out h = by (bytes.contains y.bytes b) refl (none_tak
 split : (b : ℕ) (ways : List Way) → codes_on b ways ≡ codes_on b (take 64 ways) ++ codes_on b (drop 64 ways)
 split b ways =
     let takes : Way → Bool = λ y. bytes.contains y.bytes b in
-    ap (codes_on b) (sym (take-append-drop 64 ways)) ∙ (ap (map code_of) (filter-append takes (take 64 ways) (drop 64 ways)) ∙ map-append code_of (filter takes (take 64 ways)) (filter takes (drop 64 ways)))
+    ap (codes_on b) (sym (take-append-drop 64 ways)) ∙
+    (ap (map code_of) (filter-append takes (take 64 ways) (drop 64 ways)) ∙ map-append code_of (filter takes (take 64 ways)) (filter takes (drop 64 ways)))
 
 -- the numbers so far, and then those of the rest
 abbrev pub AreRead : ℕ → List Way → List ℕ → List Way → List ℕ → Type 0
 AreRead b ways before rest codes = codes ++ codes_on b rest ≡ before ++ codes_on b ways
 
-pub read_run : (b : ℕ) (ways rest run behind : List Way) (before codes new : List ℕ) → AreRead b ways before rest codes → run ≡ take 64 rest → behind ≡ drop 64 rest → new ≡ codes ++ codes_on b run → AreRead b ways before behind new
+pub read_run : (b : ℕ) (ways rest run behind : List Way) (before codes new : List ℕ) → AreRead b ways before rest codes → run ≡ take 64 rest →
+    behind ≡ drop 64 rest → new ≡ codes ++ codes_on b run → AreRead b ways before behind new
 read_run b ways rest run behind before codes new h front left is =
-    (λ i. (is ∙ ap (λ ys. codes ++ codes_on b ys) front) i ++ codes_on b (left i)) ∙ (append_assoc codes (codes_on b (take 64 rest)) (codes_on b (drop 64 rest)) ∙ (ap (λ ns. codes ++ ns) (sym (split b rest)) ∙ h))
+    (λ i. (is ∙ ap (λ ys. codes ++ codes_on b ys) front) i ++ codes_on b (left i)) ∙
+    (append_assoc codes (codes_on b (take 64 rest)) (codes_on b (drop 64 rest)) ∙ (ap (λ ns. codes ++ ns) (sym (split b rest)) ∙ h))
 
-pub skip_run : (b : ℕ) (ways rest behind : List Way) (before codes new : List ℕ) (s : ByteClass) → AreRead b ways before rest codes → bytes.contains s b ≡ false → Bounds s (take 64 rest) → behind ≡ drop 64 rest → new ≡ codes →
+pub skip_run : (b : ℕ) (ways rest behind : List Way) (before codes new : List ℕ) (s : ByteClass) → AreRead b ways before rest codes →
+    bytes.contains s b ≡ false → Bounds s (take 64 rest) → behind ≡ drop 64 rest → new ≡ codes →
     AreRead b ways before behind new
 skip_run b ways rest behind before codes new s h out bounds left is =
     (λ i. is i ++ codes_on b (left i)) ∙ (ap (λ ns. codes ++ ns) (sym (split b rest ∙ ap (λ ns. ns ++ codes_on b (drop 64 rest)) (none_taken s b (take 64 rest) out bounds))) ∙ h)
@@ -127,7 +133,8 @@ passing_none members ways x count = record {
   gathered = λ before g. subst (λ (ys : List Way). AreGathered members ys x) (sym (append-nil before)) g;
 }
 
-pub passing_more : (members : List ℕ) (ways rest run behind : List Way) (old x new : Leading) → IsPassing members ways rest old x → run ≡ take 64 rest → behind ≡ drop 64 rest → length new.to_members.items ≡ length members →
+pub passing_more : (members : List ℕ) (ways rest run behind : List Way) (old x new : Leading) → IsPassing members ways rest old x →
+    run ≡ take 64 rest → behind ≡ drop 64 rest → length new.to_members.items ≡ length members →
     ((before : List Way) → AreGathered members before x → AreGathered members (before ++ run) new) → IsPassing members ways behind old new
 passing_more members ways rest run behind old x new h first left count more = record {
   count = count;
@@ -136,6 +143,7 @@ passing_more members ways rest run behind old x new h first left count more = re
   gathered = λ before g. subst (λ (ys : List Way). AreGathered members ys new) (append_assoc before h.front run) (more (before ++ h.front) (h.gathered before g));
 }
 
-pub passing_all : (members : List ℕ) (ways rest : List Way) (old new : Leading) → IsPassing members ways rest old new → rest ≡ [] → (before : List Way) → AreGathered members before old → AreGathered members (before ++ ways) new
+pub passing_all : (members : List ℕ) (ways rest : List Way) (old new : Leading) → IsPassing members ways rest old new → rest ≡ [] →
+    (before : List Way) → AreGathered members before old → AreGathered members (before ++ ways) new
 passing_all members ways rest old new h none before g =
     subst (λ (ys : List Way). AreGathered members (before ++ ys) new) (sym (append-nil h.front) ∙ (ap (λ ys. h.front ++ ys) (sym none) ∙ h.whole)) (h.gathered before g)

@@ -131,7 +131,8 @@ fn put_rows(
 ) -> Result<(), OutOfMemory>
     requires grouped { AreGrouped automaton.now.graph.ways }
     requires indexed { AreIndexed automaton.now.graph.ways runs.old }
-    ensures codes { OnOk result (Gains codes.old.items codes.new.items (Has (flat_map (codes_at automaton.now.graph.ways byte) members.now))) }
+    ensures codes { OnOk result (Gains codes.old.items codes.new.items
+        (Has (flat_map (codes_at automaton.now.graph.ways byte) members.now))) }
     ensures indexed { AreIndexed automaton.now.graph.ways runs.new }
 {
     let mut seen = runs.nothing_seen();

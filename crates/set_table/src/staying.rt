@@ -71,7 +71,8 @@ impl Leading {
         requires order { IsInOrder ◌<◌ members.now }
         requires count { length self.old.to_members.items ≡ length members.now }
         ensures count { length self.new.to_members.items ≡ length members.now }
-        ensures gathered { (ways : List WayOf) → AreGathered members.now ways self.old → AreGathered members.now (ways ++ way.now ∷ []) self.new }
+        ensures gathered { (ways : List WayOf) → AreGathered members.now ways self.old →
+            AreGathered members.now (ways ++ way.now ∷ []) self.new }
     {
         match member_at(members, way) {
             Some(place) => {
@@ -87,7 +88,8 @@ impl Leading {
         requires order { IsInOrder ◌<◌ members.now }
         requires count { length self.old.to_members.items ≡ length members.now }
         ensures count { length self.new.to_members.items ≡ length members.now }
-        ensures gathered { (before : List WayOf) → AreGathered members.now before self.old → AreGathered members.now (before ++ ways.now) self.new }
+        ensures gathered { (before : List WayOf) → AreGathered members.now before self.old →
+            AreGathered members.now (before ++ ways.now) self.new }
     {
         for way in ways {
             self.add(members, way);
@@ -114,7 +116,8 @@ impl Leading {
         requires indexed { AreIndexed automaton.now.graph.ways runs.now }
         requires count { length self.old.to_members.items ≡ length members.now }
         ensures count { length self.new.to_members.items ≡ length members.now }
-        ensures gathered { (before : List WayOf) → AreGathered members.now before self.old → AreGathered members.now (before ++ ways_from automaton.now.graph.ways state) self.new }
+        ensures gathered { (before : List WayOf) → AreGathered members.now before self.old →
+            AreGathered members.now (before ++ ways_from automaton.now.graph.ways state) self.new }
     {
         let ways = automaton.ways_from(state);
         if ways.len() <= FEW_WAYS {
@@ -132,7 +135,8 @@ impl Leading {
         requires runs { AreRuns ways.now runs.now }
         requires count { length self.old.to_members.items ≡ length members.now }
         ensures count { length self.new.to_members.items ≡ length members.now }
-        ensures gathered { (before : List WayOf) → AreGathered members.now before self.old → AreGathered members.now (before ++ ways.now) self.new }
+        ensures gathered { (before : List WayOf) → AreGathered members.now before self.old →
+            AreGathered members.now (before ++ ways.now) self.new }
     {
         let mut rest = ways;
         for bytes in runs {
@@ -149,7 +153,8 @@ impl Leading {
         requires bounds { Bounds bytes.now run.now }
         requires count { length self.old.to_members.items ≡ length members.now }
         ensures count { length self.new.to_members.items ≡ length members.now }
-        ensures gathered { (before : List WayOf) → AreGathered members.now before self.old → AreGathered members.now (before ++ run.now) self.new }
+        ensures gathered { (before : List WayOf) → AreGathered members.now before self.old →
+            AreGathered members.now (before ++ run.now) self.new }
     {
         if bytes.without(&self.elsewhere).is_empty() {
             return;

@@ -80,8 +80,12 @@ impl Store {
         requires question { IsQuestion question }
         requires absent { IsNotAsked (tabled automaton.now.graph limit self.old) set question }
         ensures sound { IfOk result (λ w. IsSound automaton.now limit w self.new) }
-        ensures answered { OnOk result (tabled automaton.now.graph limit self.new ≡ asked_first (tabled automaton.now.graph limit self.old) (look_up (tabled automaton.now.graph limit self.old) set (question_of question))) }
-        ensures refused { IfErr result (IsRefusal (asked_first (tabled automaton.now.graph limit self.old) (look_up (tabled automaton.now.graph limit self.old) set (question_of question)))) }
+        ensures answered { OnOk result
+            (tabled automaton.now.graph limit self.new ≡ asked_first (tabled automaton.now.graph limit self.old)
+            (look_up (tabled automaton.now.graph limit self.old) set (question_of question))) }
+        ensures refused { IfErr result
+            (IsRefusal (asked_first (tabled automaton.now.graph limit self.old)
+            (look_up (tabled automaton.now.graph limit self.old) set (question_of question)))) }
         ensures kept { OnErr result (IsSound automaton.now limit weight self.new) }
         ensures same { OnErr result (tabled automaton.now.graph limit self.new ≡ tabled automaton.now.graph limit self.old) }
     {
@@ -111,8 +115,12 @@ impl Store {
         requires question { IsQuestion question }
         requires absent { IsNotAsked (tabled automaton.now.graph limit self.old) set question }
         ensures sound { IfOk result (λ w. IsSound automaton.now limit w self.new) }
-        ensures answered { OnOk result (tabled automaton.now.graph limit self.new ≡ asked_first (tabled automaton.now.graph limit self.old) (look_up (tabled automaton.now.graph limit self.old) set (question_of question))) }
-        ensures refused { IfErr result (IsRefusal (asked_first (tabled automaton.now.graph limit self.old) (look_up (tabled automaton.now.graph limit self.old) set (question_of question)))) }
+        ensures answered { OnOk result
+            (tabled automaton.now.graph limit self.new ≡ asked_first (tabled automaton.now.graph limit self.old)
+            (look_up (tabled automaton.now.graph limit self.old) set (question_of question))) }
+        ensures refused { IfErr result
+            (IsRefusal (asked_first (tabled automaton.now.graph limit self.old)
+            (look_up (tabled automaton.now.graph limit self.old) set (question_of question)))) }
         ensures longer { AreLonger self.old.lists self.new.lists }
         ensures answers { OnErr result (self.new.answers.items ≡ self.old.answers.items) }
         ensures numbers { OnErr result (IsLongerBy self.old.numbers self.new.numbers) }
@@ -194,7 +202,9 @@ impl Store {
         requires few_answers { length self.old.answers.items ≤ 100000000 }
         ensures lists { self.new.lists ≡ self.old.lists }
         ensures answers { OnOk result (self.new.answers.items ≡ self.old.answers.items ++ answer ∷ []) }
-        ensures numbers { OnOk result (self.new.numbers ≡ slice_set (with_places (272 * length self.old.lists.sets) self.old.numbers) (place_in answer.set answer.question) (1 + length self.old.answers.items)) }
+        ensures numbers { OnOk result (self.new.numbers ≡ slice_set
+            (with_places (272 * length self.old.lists.sets) self.old.numbers) (place_in answer.set answer.question)
+            (1 + length self.old.answers.items)) }
         ensures same { OnErr result (self.new.answers.items ≡ self.old.answers.items) }
         ensures places { OnErr result (IsLongerBy self.old.numbers self.new.numbers) }
         ensures stays { self.new.stays.items ≡ self.old.stays.items }

@@ -205,7 +205,8 @@ impl<'a> Table<'a> {
 
     /// The edges of a set on a byte, where there is that set and they were asked before. It takes no step: nothing is made.
     pub fn asked_row(&self, set: u32, byte: u8) -> Option<&[Edge]>
-        ensures some { IfSome result (λ es. (set < length self.now.sets) × HasEdges self.now (look_up self.now set (byte_read byte)) es.now) }
+        ensures some { IfSome result (λ es. (set < length self.now.sets) ×
+            HasEdges self.now (look_up self.now set (byte_read byte)) es.now) }
         ensures asked { IfSome result (λ _. Has self.now.look_ups (look_up self.now set (byte_read byte))) }
         ensures none { IfNone result (set < length self.now.sets → ¬ Has self.now.look_ups (look_up self.now set (byte_read byte))) }
     {

@@ -58,7 +58,8 @@ impl WayRuns {
 
     /// The parts of the numbers of a state's ways that take the byte, where they are kept.
     pub(crate) fn parts(&self, state: u32, byte: u8) -> Option<&[Part]>
-        ensures { IfSome result (λ parts. (ways : List WayOf) → AreIndexed ways self.now → ArePartsOf parts.now (codes_at ways byte state)) }
+        ensures { IfSome result (λ parts. (ways : List WayOf) → AreIndexed ways self.now →
+            ArePartsOf parts.now (codes_at ways byte state)) }
     {
         match self.of_bytes.get(&key_of(state, byte)) {
             Some(parts) => Some(parts.as_slice()),

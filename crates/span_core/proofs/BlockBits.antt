@@ -65,12 +65,14 @@ row_bit v k b at row d h l small =
     ap (λ n. bit_at (markers_from n 0 row at) (2 * (v - (k + 1)) + b)) h ∙ ap (bit_at (markers_from v 0 row at)) e
     ∙ bit_tells v 0 at k b row d small (omega arith) (omega arith)
 
-pub block_opens : (v k at : ℕ) (row : List (Option Span)) (d : Option Span) (s : Span) → length row ≡ v → k < v → get_or row k d ≡ Some s → bit_at (block row at) (opening_bit v k) ≡ from_bool (s.start == at)
+pub block_opens : (v k at : ℕ) (row : List (Option Span)) (d : Option Span) (s : Span) → length row ≡ v → k < v → get_or row k d ≡ Some s →
+    bit_at (block row at) (opening_bit v k) ≡ from_bool (s.start == at)
 block_opens v k at row d s h l is =
     let e : opening_bit v k ≡ 2 * (v - (k + 1)) + 1 = omega arith in
     ap (bit_at (block row at)) e ∙ row_bit v k 1 at row d h l (omega arith) ∙ ap (λ o. bit_at (digit o at) 1) is ∙ digit_opens s at
 
-pub block_closes : (v k at : ℕ) (row : List (Option Span)) (d : Option Span) (s : Span) → length row ≡ v → k < v → get_or row k d ≡ Some s → bit_at (block row at) (closing_bit v k) ≡ from_bool (s.end == at)
+pub block_closes : (v k at : ℕ) (row : List (Option Span)) (d : Option Span) (s : Span) → length row ≡ v → k < v → get_or row k d ≡ Some s →
+    bit_at (block row at) (closing_bit v k) ≡ from_bool (s.end == at)
 block_closes v k at row d s h l is =
     let e : closing_bit v k ≡ 2 * (v - (k + 1)) + 0 = omega arith in
     ap (bit_at (block row at)) e ∙ row_bit v k 0 at row d h l (omega arith) ∙ ap (λ o. bit_at (digit o at) 0) is ∙ digit_closes s at

@@ -54,12 +54,14 @@ module _ (blocks : List (ℕ × ℕ)) (bit : ℕ) where
   abbrev MarkedElsewhere : ℕ → ℕ → Type 0
   MarkedElsewhere at other = IsMarked blocks bit other × (other ≡ at → ⊥)
 
-  once_of : (at : ℕ) → IsMarked blocks bit at → FoundBelow (MarkedElsewhere at) (λ other. decide_both (IsMarked blocks bit other) (other ≡ at → ⊥) (decide_marked blocks bit other) (decide_ne other at)) (past_listed blocks) → Decided Once
+  once_of : (at : ℕ) → IsMarked blocks bit at →
+      FoundBelow (MarkedElsewhere at) (λ other. decide_both (IsMarked blocks bit other) (other ≡ at → ⊥) (decide_marked blocks bit other) (decide_ne other at)) (past_listed blocks) → Decided Once
   once_of at m (inl f) = inr (λ h. f.2.1 (h.1.1 f.0 f.2.0 ∙ sym (h.1.1 at m)))
   once_of at m (inr none) = inl (at, (m, λ other o. elim (cases_eq other at) [ inl e ↦ e | inr ne ↦ absurd (none other (inside blocks bit other o) (o, ne)) ]))
 
   once_from : FoundBelow (IsMarked blocks bit) (decide_marked blocks bit) (past_listed blocks) → Decided Once
-  once_from (inl f) = once_of f.0 f.2 (search_below (MarkedElsewhere f.0) (λ other. decide_both (IsMarked blocks bit other) (other ≡ f.0 → ⊥) (decide_marked blocks bit other) (decide_ne other f.0)) (past_listed blocks))
+  once_from (inl f) = once_of f.0 f.2
+      (search_below (MarkedElsewhere f.0) (λ other. decide_both (IsMarked blocks bit other) (other ≡ f.0 → ⊥) (decide_marked blocks bit other) (decide_ne other f.0)) (past_listed blocks))
   once_from (inr none) = inr (λ h. none h.0 (inside blocks bit h.0 h.1.0) h.1.0)
 
   decide_once : Decided Once
@@ -83,7 +85,8 @@ module _ (v k : ℕ) (blocks : List (ℕ × ℕ)) where
   IsMarkedAt at = IsMarked blocks (opening_bit v k) at ⊎ IsMarked blocks (closing_bit v k) at
 
   decide_marked_at : (at : ℕ) → Decided (IsMarkedAt at)
-  decide_marked_at at = decide_either (IsMarked blocks (opening_bit v k) at) (IsMarked blocks (closing_bit v k) at) (decide_marked blocks (opening_bit v k) at) (decide_marked blocks (closing_bit v k) at)
+  decide_marked_at at = decide_either (IsMarked blocks (opening_bit v k) at) (IsMarked blocks (closing_bit v k) at)
+      (decide_marked blocks (opening_bit v k) at) (decide_marked blocks (closing_bit v k) at)
 
   marker_from : FoundBelow IsMarkedAt decide_marked_at (past_listed blocks) → Decided (HasMarker v k blocks)
   marker_from (inl f) = inl (f.0, f.2)
@@ -172,12 +175,15 @@ module _ (v : ℕ) (blocks : List (ℕ × ℕ)) where
     bit_made : (at bit : ℕ) → bit_at (block made_row at) bit ≡ bit_at (listed blocks at) bit
     bit_made at bit = elim (cases_lt bit (2 * v)) [
       | inl l ↦ (let k = v - (bit / 2 + 1) in elim (cases_eq (bit % 2) 1) [
-        | inl odd ↦ (let e : opening_bit v k ≡ bit = omega arith in subst (λ (b : ℕ). bit_at (block made_row at) b ≡ bit_at (listed blocks at) b) e (opening_made k at (omega arith) (decide_variable v k blocks) (made_at k (omega arith))))
+        | inl odd ↦ (let e : opening_bit v k ≡ bit = omega arith in
+            subst (λ (b : ℕ). bit_at (block made_row at) b ≡ bit_at (listed blocks at) b) e (opening_made k at (omega arith) (decide_variable v k blocks) (made_at k (omega arith))))
         | inr even ↦ (let h : bit % 2 ≡ 0 = zero_or_one (bit % 2) (omega arith) even in
-            let e : closing_bit v k ≡ bit = omega arith in subst (λ (b : ℕ). bit_at (block made_row at) b ≡ bit_at (listed blocks at) b) e (closing_made k at (omega arith) (decide_variable v k blocks) (made_at k (omega arith))))
+            let e : closing_bit v k ≡ bit = omega arith in
+            subst (λ (b : ℕ). bit_at (block made_row at) b ≡ bit_at (listed blocks at) b) e (closing_made k at (omega arith) (decide_variable v k blocks) (made_at k (omega arith))))
       ])
       | inr above ↦ (let le : 2 * v ≤ bit = omega (arith, above) in
-          bit_at_above (block made_row at) (2 * v) bit (block_below v at made_row made_length) le ∙ sym (zero_or_one (bit_at (listed blocks at) bit) (bit_at-lt (listed blocks at) bit) (none bit at le)))
+          bit_at_above (block made_row at) (2 * v) bit (block_below v at made_row made_length) le ∙
+          sym (zero_or_one (bit_at (listed blocks at) bit) (bit_at-lt (listed blocks at) bit) (none bit at le)))
     ]
 
     made_is : IsRowOfBlocks v blocks made_row

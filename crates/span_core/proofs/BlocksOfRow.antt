@@ -46,7 +46,8 @@ same_lists [] [] h h' same = refl
 same_lists [] (b ∷ ys) h h' same = absurd (omega (arith, same b.0, listed_here b ys b.0 refl, h'.1 0 b (omega arith)))
 same_lists (a ∷ xs) [] h h' same = absurd (omega (arith, same a.0, listed_here a xs a.0 refl, h.1 0 a (omega arith)))
 same_lists (a ∷ xs) (b ∷ ys) h h' same = elim (cases_eq a.0 b.0) [
-  | inl e ↦ (let rest : xs ≡ ys = same_lists xs ys (tail_ascends a xs h.0, λ k d l. h.1 (suc k) d (omega arith)) (tail_ascends b ys h'.0, λ k d l. h'.1 (suc k) d (omega arith)) (rest_same a b xs ys h.0 h'.0 e same) in
+  | inl e ↦ (let rest : xs ≡ ys = same_lists xs ys (tail_ascends a xs h.0, λ k d l. h.1 (suc k) d (omega arith))
+      (tail_ascends b ys h'.0, λ k d l. h'.1 (suc k) d (omega arith)) (rest_same a b xs ys h.0 h'.0 e same) in
       let marks : a.1 ≡ b.1 = sym (listed_here a xs a.0 refl) ∙ same a.0 ∙ listed_here b ys a.0 (sym e) in
       λ i. (e i, marks i) ∷ rest i)
   | inr ne ↦ elim (cases_lt a.0 b.0) [

@@ -45,13 +45,15 @@ never_backward v k start end blocks l opens closes back row h =
 next_is : (k : ℕ) (so_far row : List (Option Span)) (o : Option Span) → k < length row → get_or row k o ≡ o → so_far ≡ take k row → so_far ++ o ∷ [] ≡ take (k + 1) row
 next_is k so_far row o l last e = ap (λ xs. xs ++ o ∷ []) e ∙ ap (λ x. take k row ++ x ∷ []) (sym last) ∙ sym (take_more row k o l)
 
-pub only_absent : (v k : ℕ) (blocks : List (ℕ × ℕ)) (so_far : List (Option Span)) → k < v → ((at : ℕ) → bit_at (listed blocks at) (opening_bit v k) ≡ 0) → ((at : ℕ) → bit_at (listed blocks at) (closing_bit v k) ≡ 0)
+pub only_absent : (v k : ℕ) (blocks : List (ℕ × ℕ)) (so_far : List (Option Span)) → k < v →
+    ((at : ℕ) → bit_at (listed blocks at) (opening_bit v k) ≡ 0) → ((at : ℕ) → bit_at (listed blocks at) (closing_bit v k) ≡ 0)
     → (row : List (Option Span)) → IsRowOfBlocks v blocks row → so_far ≡ take k row → so_far ++ None ∷ [] ≡ take (k + 1) row
 only_absent v k blocks so_far l opens closes row h e =
     let none : HasMarker v k blocks → ⊥ = λ m. elim m.1 [ inl o ↦ omega (arith, o, opens m.0) | inr c ↦ omega (arith, c, closes m.0) ] in
     next_is k so_far row None (omega (arith, h.variables)) (unmarked_absent v k blocks row None h l none) e
 
-pub only_more : (v k : ℕ) (blocks : List (ℕ × ℕ)) (so_far : List (Option Span)) (s : Span) → k < v → bit_at (listed blocks s.start) (opening_bit v k) ≡ 1 → bit_at (listed blocks s.end) (closing_bit v k) ≡ 1
+pub only_more : (v k : ℕ) (blocks : List (ℕ × ℕ)) (so_far : List (Option Span)) (s : Span) → k < v →
+    bit_at (listed blocks s.start) (opening_bit v k) ≡ 1 → bit_at (listed blocks s.end) (closing_bit v k) ≡ 1
     → (row : List (Option Span)) → IsRowOfBlocks v blocks row → so_far ≡ take k row → so_far ++ Some s ∷ [] ≡ take (k + 1) row
 only_more v k blocks so_far s l opens closes row h e =
     let t = marked_present v k blocks row (Some s) h l (s.start, inl opens) in

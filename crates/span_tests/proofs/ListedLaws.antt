@@ -21,7 +21,8 @@ below_next : (i k : ℕ) → i < k + 1 → (i < k) ⊎ (i ≡ k)
 below_next i k small = search (arith, rules)
 
 -- one more test that has not the name
-pub none_at_next : (tests : List (List ℕ × ℕ)) (k : ℕ) (test : List ℕ × ℕ) (name : List ℕ) → test ≡ get_or tests k test → (test.0 ≡ name → ⊥) → ((i : ℕ) → i < k → ¬ IsNamedAt tests name i) → (i : ℕ) → i < k + 1 → ¬ IsNamedAt tests name i
+pub none_at_next : (tests : List (List ℕ × ℕ)) (k : ℕ) (test : List ℕ × ℕ) (name : List ℕ) → test ≡ get_or tests k test → (test.0 ≡ name → ⊥) →
+    ((i : ℕ) → i < k → ¬ IsNamedAt tests name i) → (i : ℕ) → i < k + 1 → ¬ IsNamedAt tests name i
 none_at_next tests k test name is other none i small at =
     elim (below_next i k small) [
       | inl below ↦ none i below at

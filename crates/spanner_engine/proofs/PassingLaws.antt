@@ -74,8 +74,10 @@ one_fails : (checks : List Check) (names : List VarName) (d : List ℕ) (row : S
 one_fails [] names d row fails = absurd (cc)
 one_fails (c ∷ checks) names d row fails = ap (λ (b : Bool). if b then row ∷ [] else []) fails
 
-pub more_fail : (checks : List Check) (names : List VarName) (d : List ℕ) (tried : List SpanRow) (row : SpanRow) → passing checks names d tried ≡ [] → passes checks names d row ≡ false → passing checks names d (tried ++ row ∷ []) ≡ []
-more_fail checks names d tried row fail fails = passing_append checks names d tried (row ∷ []) ∙ ap (λ (xs : List SpanRow). xs ++ passing checks names d (row ∷ [])) fail ∙ one_fails checks names d row fails
+pub more_fail : (checks : List Check) (names : List VarName) (d : List ℕ) (tried : List SpanRow) (row : SpanRow) → passing checks names d tried ≡ [] →
+    passes checks names d row ≡ false → passing checks names d (tried ++ row ∷ []) ≡ []
+more_fail checks names d tried row fail fails = passing_append checks names d tried (row ∷ []) ∙
+    ap (λ (xs : List SpanRow). xs ++ passing checks names d (row ∷ [])) fail ∙ one_fails checks names d row fails
 
 -- ---- the last of the answers fit
 
@@ -114,7 +116,8 @@ module _ (k : Known) (names : List VarName) (d : List ℕ) (row : SpanRow) (a : 
 
 -- ---- one answer further
 
-pub last_further : (q : QueryTree) (d : List ℕ) (names : List VarName) (b : Bool) (old new : List SpanRow) (row before : SpanRow) → OnTrue b (old ≡ row ∷ new) → OnFalse b ((old ≡ []) × (new ≡ []) × (row ≡ before)) →
+pub last_further : (q : QueryTree) (d : List ℕ) (names : List VarName) (b : Bool) (old new : List SpanRow) (row before : SpanRow) →
+    OnTrue b (old ≡ row ∷ new) → OnFalse b ((old ≡ []) × (new ≡ []) × (row ≡ before)) →
     AreLast q d names old → AreLast q d names new
 last_further q d names true old new row before goes ends last = last_rest q d names (row ∷ []) new old goes last
 last_further q d names false old new row before goes ends last = subst (AreLast q d names) (ends.0 ∙ sym ends.1) last
@@ -141,13 +144,15 @@ pub steps_more : (old now next after v w tests : ℕ) (front : List SpanRow) (ro
 steps_more old now next after v w tests front row same inv further asked =
     steps_by old now next after v w tests (length front) (length (front ++ row ∷ [])) (length_push front row) same inv further asked
 
-pub first_fits : (q : QueryTree) (d : List ℕ) (names : List VarName) (rest new : List SpanRow) (row shown : SpanRow) → AreLast q d names rest → rest ≡ row ∷ new → shown ≡ row → FitsRow (length names) (length d) shown
+pub first_fits : (q : QueryTree) (d : List ℕ) (names : List VarName) (rest new : List SpanRow) (row shown : SpanRow) → AreLast q d names rest →
+    rest ≡ row ∷ new → shown ≡ row → FitsRow (length names) (length d) shown
 first_fits q d names rest new row shown last is same =
     subst (λ (r : SpanRow). FitsRow (length names) (length d) r) (sym same) (last_fit q d names rest row last (subst (λ (rs : List SpanRow). Has rs row) (sym is) (inl refl)))
 
 -- ---- rows that are given
 
-pub passes_first : (checks : List Check) (names : List VarName) (d : List ℕ) (row : SpanRow) (rows : List SpanRow) → passes checks names d row ≡ true → passing checks names d (row ∷ rows) ≡ row ∷ passing checks names d rows
+pub passes_first : (checks : List Check) (names : List VarName) (d : List ℕ) (row : SpanRow) (rows : List SpanRow) →
+    passes checks names d row ≡ true → passing checks names d (row ∷ rows) ≡ row ∷ passing checks names d rows
 passes_first [] names d row rows is = refl
 passes_first (c ∷ checks) names d row rows is =
     ap (λ (b : Bool). if b then row ∷ filter (passes (c ∷ checks) names d) rows else filter (passes (c ∷ checks) names d) rows) is

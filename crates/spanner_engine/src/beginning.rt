@@ -89,13 +89,17 @@ pub fn begin<L: Ledger>(
     requires few { length doc.now ≤ 2 ^ 28 }
     requires row { IfSome (option_copied after) (λ kept. length kept.row ≡ length compiled.now.automaton.names) }
     requires limit { options.limit ≤ 100000000 }
-    ensures left { IfOk result (λ a. AreLeft (query_of compiled.now.query) doc.now compiled.now.automaton.names (row_kept (option_copied after.entry)) a.rest) }
+    ensures left { IfOk result (λ a. AreLeft (query_of compiled.now.query) doc.now compiled.now.automaton.names
+        (row_kept (option_copied after.entry)) a.rest) }
     ensures variables { IfOk result (λ a. a.variables ≡ length compiled.now.automaton.names) }
-    ensures other { (kept : ℕ) → KeepsOther (length doc.now) (option_copied after.entry) kept → IsErrOf result (CursorOther kept (length doc.now)) }
+    ensures other { (kept : ℕ) → KeepsOther (length doc.now) (option_copied after.entry) kept →
+        IsErrOf result (CursorOther kept (length doc.now)) }
     ensures place { IsPast (length doc.now) (option_copied after.entry) → IsErrOf result CursorPlace }
     ensures still { (kept found : ℕ) → IsErrOf result CursorPlace ⊎ IsErrOf result (CursorOther kept found) → steps.new ≡ steps.old }
-    ensures fault { IfErr result (IsBeginFault (query_of compiled.now.query) doc.now options.filter (option_copied after.entry) options.limit) }
-    ensures weighs { OnOk result (IsReadWithin compiled.now.automaton.graph (query_of compiled.now.query) doc.now options.filter options.limit) }
+    ensures fault { IfErr result (IsBeginFault (query_of compiled.now.query) doc.now options.filter
+        (option_copied after.entry) options.limit) }
+    ensures weighs { OnOk result (IsReadWithin compiled.now.automaton.graph (query_of compiled.now.query) doc.now
+        options.filter options.limit) }
     ensures atoms { OnOk result (AreAtomsWithin (query_of compiled.now.query) doc.now options.filter options.limit) }
     ensures steps { (K : ℕ → Bool) → AreRead options.filter (query_of compiled.now.query) doc.now K →
         steps.new ≤ steps.old + begin_steps options.filter (query_of compiled.now.query) doc.now K (row_kept (option_copied after.entry)) }
@@ -126,9 +130,11 @@ pub fn begin_by<L: Ledger>(
     requires few { length doc.now ≤ 2 ^ 28 }
     requires row { IfSome (option_copied after) (λ kept. length kept.row ≡ length automaton.now.names) }
     requires limit { options.limit ≤ 100000000 }
-    ensures left { IfOk result (λ a. AreLeft (query_of query.now) doc.now automaton.now.names (row_kept (option_copied after.entry)) a.rest) }
+    ensures left { IfOk result (λ a. AreLeft (query_of query.now) doc.now automaton.now.names
+        (row_kept (option_copied after.entry)) a.rest) }
     ensures variables { IfOk result (λ a. a.variables ≡ length automaton.now.names) }
-    ensures other { (kept : ℕ) → KeepsOther (length doc.now) (option_copied after.entry) kept → IsErrOf result (CursorOther kept (length doc.now)) }
+    ensures other { (kept : ℕ) → KeepsOther (length doc.now) (option_copied after.entry) kept →
+        IsErrOf result (CursorOther kept (length doc.now)) }
     ensures place { IsPast (length doc.now) (option_copied after.entry) → IsErrOf result CursorPlace }
     ensures still { (kept found : ℕ) → IsErrOf result CursorPlace ⊎ IsErrOf result (CursorOther kept found) → steps.new ≡ steps.old }
     ensures fault { IfErr result (IsBeginFault (query_of query.now) doc.now options.filter (option_copied after.entry) options.limit) }
@@ -161,9 +167,11 @@ pub fn begin_with<L: Ledger>(
     requires row { IfSome (option_copied after) (λ kept. length kept.row ≡ length automaton.now.names) }
     requires limit { options.limit ≤ 100000000 }
     ensures cache { IsCacheOf automaton.now.graph cache.new }
-    ensures left { IfOk result (λ a. AreLeft (query_of query.now) doc.now automaton.now.names (row_kept (option_copied after.entry)) a.rest) }
+    ensures left { IfOk result (λ a. AreLeft (query_of query.now) doc.now automaton.now.names
+        (row_kept (option_copied after.entry)) a.rest) }
     ensures variables { IfOk result (λ a. a.variables ≡ length automaton.now.names) }
-    ensures other { (kept : ℕ) → KeepsOther (length doc.now) (option_copied after.entry) kept → IsErrOf result (CursorOther kept (length doc.now)) }
+    ensures other { (kept : ℕ) → KeepsOther (length doc.now) (option_copied after.entry) kept →
+        IsErrOf result (CursorOther kept (length doc.now)) }
     ensures place { IsPast (length doc.now) (option_copied after.entry) → IsErrOf result CursorPlace }
     ensures still { (kept found : ℕ) → IsErrOf result CursorPlace ⊎ IsErrOf result (CursorOther kept found) → steps.new ≡ steps.old }
     ensures fault { IfErr result (IsBeginFault (query_of query.now) doc.now options.filter (option_copied after.entry) options.limit) }

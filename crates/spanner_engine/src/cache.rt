@@ -105,7 +105,8 @@ impl Cache {
         requires limit { limit ≤ 100000000 }
         requires within { (q : ℕ) → Covers positions.now q → q ≤ length doc.now }
         ensures cache { IsCacheOf automaton.now.graph self.new }
-        ensures words { IfOk result (λ lists. AreReadWords automaton.now.graph (is_touched positions.now) doc.now (rows lists.store lists.first)) }
+        ensures words { IfOk result (λ lists. AreReadWords automaton.now.graph (is_touched positions.now) doc.now
+            (rows lists.store lists.first)) }
         ensures cells { IfOk result (λ lists. length lists.store ≤ edges_K automaton.now.graph doc.now (is_touched positions.now) + 1) }
         ensures weighs { OnOk result (WeighsWithin automaton.now.graph doc.now (is_touched positions.now) limit) }
         ensures cause { IfErr result (IsReadFault automaton.now.graph (is_touched positions.now) doc.now limit) }

@@ -82,11 +82,13 @@ impl<'r, J: Judge> TestedRows<'r, J> {
     #[inline(always)]
     pub fn advance<L: Ledger>(&mut self, steps: &mut Steps<L>) -> bool
         ensures source { self.new.source ≡ self.old.source }
-        ensures next { OnTrue result (passing_over J.judges self.old.source self.old.rest ≡ self.new.row ∷ passing_over J.judges self.old.source self.new.rest) }
+        ensures next { OnTrue result (passing_over J.judges self.old.source self.old.rest ≡ self.new.row ∷ passing_over
+            J.judges self.old.source self.new.rest) }
         ensures fits { OnTrue result (FitsRow (length self.old.source.names) (length self.old.source.document) self.new.row) }
         ensures none { OnFalse result ((passing_over J.judges self.old.source self.old.rest ≡ []) × (self.new.rest ≡ [])) }
         ensures left { EndsIn self.old.rest self.new.rest }
-        ensures steps { steps.new ≤ steps.old + trying_steps (length self.old.source.names) (length self.old.source.asked) (length self.old.rest - length self.new.rest) result }
+        ensures steps { steps.new ≤ steps.old + trying_steps (length self.old.source.names)
+            (length self.old.source.asked) (length self.old.rest - length self.new.rest) result }
     {
         advance_tested(
             &mut self.answers,
@@ -120,7 +122,8 @@ impl<'r, J: Judge> TestedRows<'r, J> {
             (λ row. passing_over J.judges self.old.source self.old.rest ≡ row ∷ passing_over J.judges self.old.source self.new.rest) }
         ensures fits { IfSome result (FitsRow (length self.old.source.names) (length self.old.source.document)) }
         ensures left { EndsIn self.old.rest self.new.rest }
-        ensures steps { steps.new ≤ steps.old + trying_steps (length self.old.source.names) (length self.old.source.asked) (length self.old.rest - length self.new.rest) (is_some result) }
+        ensures steps { steps.new ≤ steps.old + trying_steps (length self.old.source.names)
+            (length self.old.source.asked) (length self.old.rest - length self.new.rest) (is_some result) }
     {
         if self.advance(steps) {
             Some(self.row())

@@ -112,10 +112,13 @@ pub fn advance_tested<J: Judge, L: Ledger>(
     requires last { AreLast (query_of tested.now.query) doc.now vars.now answers.old.rest }
     requires bound { AreKnown (known tests.now J.judges) tested.now.asked }
     ensures variables { answers.new.variables ≡ answers.old.variables }
-    ensures next { OnTrue result (IsNextPassing (checks_of (known tests.now J.judges) tested.now.asked) vars.now doc.now answers.old.rest answers.new.row answers.new.rest) }
-    ensures none { OnFalse result ((passing (checks_of (known tests.now J.judges) tested.now.asked) vars.now doc.now answers.old.rest ≡ []) × (answers.new.rest ≡ [])) }
+    ensures next { OnTrue result (IsNextPassing (checks_of (known tests.now J.judges) tested.now.asked) vars.now doc.now
+        answers.old.rest answers.new.row answers.new.rest) }
+    ensures none { OnFalse result ((passing (checks_of (known tests.now J.judges) tested.now.asked) vars.now doc.now
+        answers.old.rest ≡ []) × (answers.new.rest ≡ [])) }
     ensures last { AreLast (query_of tested.now.query) doc.now vars.now answers.new.rest }
-    ensures steps { steps.new ≤ steps.old + trying_steps answers.old.variables (length tested.now.asked) (length answers.old.rest - length answers.new.rest) result }
+    ensures steps { steps.new ≤ steps.old + trying_steps answers.old.variables (length tested.now.asked)
+        (length answers.old.rest - length answers.new.rest) result }
 {
     if tested.asked.len() == 0 {
         return answers.advance(steps);
@@ -147,7 +150,8 @@ pub fn next_tested<J: Judge, L: Ledger>(
         ((passing (checks_of (known tests.now J.judges) tested.now.asked) vars.now doc.now answers.old.rest ≡ []) × (answers.new.rest ≡ []))
         (λ row. IsNextPassing (checks_of (known tests.now J.judges) tested.now.asked) vars.now doc.now answers.old.rest row answers.new.rest) }
     ensures last { AreLast (query_of tested.now.query) doc.now vars.now answers.new.rest }
-    ensures steps { steps.new ≤ steps.old + trying_steps answers.old.variables (length tested.now.asked) (length answers.old.rest - length answers.new.rest) (is_some result) }
+    ensures steps { steps.new ≤ steps.old + trying_steps answers.old.variables (length tested.now.asked)
+        (length answers.old.rest - length answers.new.rest) (is_some result) }
 {
     if advance_tested(answers, tested, vars, tests, doc, steps) {
         Some(answers.row())

@@ -123,10 +123,12 @@ impl<J: Judge> Prepared<J> {
         requires few { length document.now ≤ 2 ^ 28 }
         requires row { IfSome (option_copied after) (λ kept. length kept.row ≡ length self.now.names) }
         requires limit { options.limit ≤ 100000000 }
-        ensures left { IfOk result (λ r. AreLeft (tree self.now).query document.now self.now.names (row_kept (option_copied after.entry)) r.rest) }
+        ensures left { IfOk result (λ r. AreLeft (tree self.now).query document.now self.now.names
+            (row_kept (option_copied after.entry)) r.rest) }
         ensures last { IfOk result (λ r. AreLast (tree self.now).query document.now self.now.names r.rest) }
         ensures variables { IfOk result (λ r. r.variables ≡ length self.now.names) }
-        ensures fault { IfErr result (IsBeginFault (tree self.now).query document.now options.filter (option_copied after.entry) options.limit) }
+        ensures fault { IfErr result (IsBeginFault (tree self.now).query document.now options.filter
+            (option_copied after.entry) options.limit) }
         ensures steps { (K : ℕ → Bool) → AreRead options.filter (tree self.now).query document.now K →
             steps.new ≤ steps.old + begin_steps options.filter (tree self.now).query document.now K (row_kept (option_copied after.entry)) }
     {
@@ -162,10 +164,12 @@ impl<J: Judge> Prepared<J> {
         requires row { IfSome (option_copied after) (λ kept. length kept.row ≡ length self.now.names) }
         requires limit { options.limit ≤ 100000000 }
         ensures cache { IsCacheOf self.now.graph cache.new }
-        ensures left { IfOk result (λ r. AreLeft (tree self.now).query document.now self.now.names (row_kept (option_copied after.entry)) r.rest) }
+        ensures left { IfOk result (λ r. AreLeft (tree self.now).query document.now self.now.names
+            (row_kept (option_copied after.entry)) r.rest) }
         ensures last { IfOk result (λ r. AreLast (tree self.now).query document.now self.now.names r.rest) }
         ensures variables { IfOk result (λ r. r.variables ≡ length self.now.names) }
-        ensures fault { IfErr result (IsBeginFault (tree self.now).query document.now options.filter (option_copied after.entry) options.limit) }
+        ensures fault { IfErr result (IsBeginFault (tree self.now).query document.now options.filter
+            (option_copied after.entry) options.limit) }
         ensures steps { (K : ℕ → Bool) → AreRead options.filter (tree self.now).query document.now K →
             steps.new ≤ steps.old + rebuild cache.old.kept (counted (tree self.now).query) document.now K
             + begin_steps options.filter (tree self.now).query document.now K (row_kept (option_copied after.entry)) }

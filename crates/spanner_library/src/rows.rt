@@ -55,7 +55,8 @@ impl Rows {
         requires few { length document.now ≤ 2 ^ 28 }
         requires last { AreLast (tree query.now).query document.now query.now.names self.old.rest }
         requires room { most * (2 * length query.now.names) ≤ length out.old }
-        ensures given { Given (checks_by J.judges query.now) query.now.names document.now self.old.rest self.new.rest out.old out.new most result }
+        ensures given { Given (checks_by J.judges query.now) query.now.names document.now self.old.rest self.new.rest
+            out.old out.new most result }
         ensures last { AreLast (tree query.now).query document.now query.now.names self.new.rest }
         ensures variables { self.new.variables ≡ self.old.variables }
         ensures fewer { length self.new.rest + result ≤ length self.old.rest }
@@ -77,7 +78,8 @@ fn fill_from<J: Judge, L: Ledger>(
     requires few { length document.now ≤ 2 ^ 28 }
     requires last { AreLast (tree query.now).query document.now query.now.names answers.old.rest }
     requires room { most * (2 * length query.now.names) ≤ length out.old }
-    ensures given { Given (checks_by J.judges query.now) query.now.names document.now answers.old.rest answers.new.rest out.old out.new most result }
+    ensures given { Given (checks_by J.judges query.now) query.now.names document.now answers.old.rest answers.new.rest
+        out.old out.new most result }
     ensures last { AreLast (tree query.now).query document.now query.now.names answers.new.rest }
     ensures variables { answers.new.variables ≡ answers.old.variables }
     ensures fewer { length answers.new.rest + result ≤ length answers.old.rest }

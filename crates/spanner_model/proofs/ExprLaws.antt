@@ -272,7 +272,8 @@ asked : (q : QueryTree) (known : List (List VarName)) (n : ℕ) (e : ExprTree) �
 asked q known n e s long knows sound in_q =
     let V = vars_of_lets q.lets n in
     let S = sure_of_lets q.lets n in
-    let var : (x : VarName) → VarOf (vars_in known) e x → VarOf V e x = λ x v. subst (λ m. VarOf (vars_of_lets q.lets m) e x) long (var_same (vars_in known) (vars_of_lets q.lets (length known)) knows e x v) in
+    let var : (x : VarName) → VarOf (vars_in known) e x →
+    VarOf V e x = λ x v. subst (λ m. VarOf (vars_of_lets q.lets m) e x) long (var_same (vars_in known) (vars_of_lets q.lets (length known)) knows e x v) in
     let named : (x : VarName) → ⊥ ⊎ VarOf (vars_in known) e x → NameOf q x = λ x h. elim h as (λ _. NameOf q x) [
       | inl a ↦ absurd a
       | inr v ↦ elim (var_named V S (NameInLets q.lets) (lets_named q.lets s.sound_lets n) n e x sound.0 (var x v)) as (λ _. NameOf q x) [

@@ -28,7 +28,8 @@ fits_b = inr (inl (fits_byte 98 d 1 refl))
 
 dot_has_b : IsTrue (set.contains {R = nat_cmp} (set.difference (bytes_between 0 255) (set.insert set.empty 10)) 98)
 dot_has_b =
-    contains-difference nat_cmp_total (bytes_between 0 255) (set.insert set.empty 10) 98 ∙ ap (λ t. t && not (set.contains {R = nat_cmp} (set.insert set.empty 10) 98)) (contains-bytes_between 0 255 98)
+    contains-difference nat_cmp_total (bytes_between 0 255) (set.insert set.empty 10) 98 ∙
+    ap (λ t. t && not (set.contains {R = nat_cmp} (set.insert set.empty 10) 98)) (contains-bytes_between 0 255 98)
     ∙ ap (λ t. not t) (byte_has 10 98)
 
 fits_dot : Fit (cap x dot) d 1 2 ((x, span 1 1) ∷ [])
@@ -98,5 +99,9 @@ maybe_rows = (
 pub union_rows : UnionRows
 union_rows = (
   (span_of ((x, span 0 1) ∷ []), inl (0, 1, (x, span 0 1) ∷ [], fits_a 0 (codes "a") refl, omega arith, λ t. absurd (cc), λ t. absurd (cc), λ z. refl), refl),
-  (span_of ((y, span 0 1) ∷ []), inr (inl (0, 1, (y, span 0 1) ∷ [], fits_cap y a (codes "a") 0 1 [] (fits_byte 97 (codes "a") 0 refl) (λ n. n), omega arith, λ t. absurd (cc), λ t. absurd (cc), λ z. refl)), refl),
+  (
+    span_of ((y, span 0 1) ∷ []),
+    inr (inl (0, 1, (y, span 0 1) ∷ [], fits_cap y a (codes "a") 0 1 [] (fits_byte 97 (codes "a") 0 refl) (λ n. n), omega arith, λ t. absurd (cc), λ t. absurd (cc), λ z. refl)),
+    refl,
+  ),
 )

@@ -23,7 +23,8 @@ mapping_of-outside (y ∷ names) (s ∷ row) x out = by (bytes_eq y x) refl (map
     by false e later = later
 
 -- the span at the place of a name
-pub mapping_of-at : (names : List VarName) (row : SpanRow) (k : ℕ) (x : VarName) (s : Option Span) → AreDistinct names → slice_get names k ≡ Some x → slice_get row k ≡ Some s → mapping_of names row x ≡ s
+pub mapping_of-at : (names : List VarName) (row : SpanRow) (k : ℕ) (x : VarName) (s : Option Span) → AreDistinct names → slice_get names k ≡ Some x →
+    slice_get row k ≡ Some s → mapping_of names row x ≡ s
 mapping_of-at [] row k x s d a b = absurd (cc)
 mapping_of-at (y ∷ names) [] k x s d a b = absurd (cc)
 mapping_of-at (y ∷ names) (t ∷ row) zero x s d a b =

@@ -34,7 +34,8 @@ module _ {X : Type 0} (Before : X → X → Type 0) (apart : (x y : X) → Befor
   front_before (z ∷ xs) ys x y up (inr h) g = front_before xs ys x y up.1 h g
 
 -- a list is cut in one way where P is of what is behind, and not of what is in front
-pub cut_once : {X : Type 0} (P : X → Type 0) (f g r s : List X) → f ++ r ≡ g ++ s → ((x : X) → Has f x → P x → ⊥) → ((x : X) → Has r x → P x) → ((x : X) → Has g x → P x → ⊥) → ((x : X) → Has s x → P x) → r ≡ s
+pub cut_once : {X : Type 0} (P : X → Type 0) (f g r s : List X) → f ++ r ≡ g ++ s → ((x : X) → Has f x → P x → ⊥) → ((x : X) → Has r x → P x) →
+    ((x : X) → Has g x → P x → ⊥) → ((x : X) → Has s x → P x) → r ≡ s
 cut_once P [] [] r s e nf ar ng as_ = e
 cut_once {X} P [] (y ∷ g) r s e nf ar ng as_ = absurd (ng y (inl refl) (ar y (subst (λ (xs : List X). Has xs y) (sym e) (inl refl))))
 cut_once {X} P (x ∷ f) [] r s e nf ar ng as_ = absurd (nf x (inl refl) (as_ x (subst (λ (xs : List X). Has xs x) e (inl refl))))

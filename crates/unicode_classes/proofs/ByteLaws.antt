@@ -37,7 +37,8 @@ in_more s k b =
 -- a set and a single byte
 pub with_single : (s : FinSet nat_cmp) (k : ℕ) → union s (insert empty k) ≡ insert s k
 with_single s k = same_bytes (union s (insert empty k)) (insert s k) (λ b.
-    contains-union nat_cmp_total s (insert empty k) b ∙ ap (λ (x : Bool). contains s b || x) (contains-insert nat_cmp_total empty k b ∙ ap (λ (x : Bool). eq_by_cmp nat_cmp b k || x) (contains-empty nat_cmp b))
+    contains-union nat_cmp_total s (insert empty k) b ∙
+    ap (λ (x : Bool). contains s b || x) (contains-insert nat_cmp_total empty k b ∙ ap (λ (x : Bool). eq_by_cmp nat_cmp b k || x) (contains-empty nat_cmp b))
     ∙ turned (contains s b) (eq_by_cmp nat_cmp b k) ∙ sym (contains-insert nat_cmp_total s k b))
   where
     turned : (x y : Bool) → (x || (y || false)) ≡ (y || x)

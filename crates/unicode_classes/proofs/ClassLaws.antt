@@ -21,7 +21,8 @@ none_behind ranges _ _ n none no_length = no_text none no_length
 none_behind ranges _ arms n none (no_text {n = m} {ns} other rest) = no_text other (none_behind ranges ns arms n none rest)
 none_behind ranges _ _ n none (some_text {n = m} {ns} {f} {arms} w is tree rest) = some_text w is tree (none_behind ranges ns arms n none rest)
 
-some_behind : (ranges : Ranges) (ns : List ℕ) (arms : List Tree) (n : ℕ) (f : Tree) (w : List ℕ) → IsLongText ranges n w → IsTreeOf n (IsLongText ranges n) f → AreArms ranges ns arms → AreArms ranges (ns ++ n ∷ []) (arms ++ f ∷ [])
+some_behind : (ranges : Ranges) (ns : List ℕ) (arms : List Tree) (n : ℕ) (f : Tree) (w : List ℕ) → IsLongText ranges n w →
+    IsTreeOf n (IsLongText ranges n) f → AreArms ranges ns arms → AreArms ranges (ns ++ n ∷ []) (arms ++ f ∷ [])
 some_behind ranges _ _ n f w is tree no_length = some_text w is tree no_length
 some_behind ranges _ arms n f w is tree (no_text {n = m} {ns} other rest) = no_text other (some_behind ranges ns arms n f w is tree rest)
 some_behind ranges _ _ n f w is tree (some_text {n = m} {ns} {f = g} {arms} v isv t rest) = some_text v isv t (some_behind ranges ns arms n f w is tree rest)
@@ -32,7 +33,8 @@ pub record IsBlock (base tails from end : ℕ) : Type 0 where
   pub long : (c : ℕ) → c < 1114112 → length (encode_utf8 c) ≡ suc tails → (from ≤ c) × (c < end)
 
 -- the number of bytes of a text
-lengths : (c : ℕ) → ((c < 128) × (length (encode_utf8 c) ≡ 1)) ⊎ (((128 ≤ c) × (c < 2048) × (length (encode_utf8 c) ≡ 2)) ⊎ (((2048 ≤ c) × (c < 65536) × (length (encode_utf8 c) ≡ 3)) ⊎ ((65536 ≤ c) × (length (encode_utf8 c) ≡ 4))))
+lengths : (c : ℕ) → ((c < 128) × (length (encode_utf8 c) ≡ 1)) ⊎
+    (((128 ≤ c) × (c < 2048) × (length (encode_utf8 c) ≡ 2)) ⊎ (((2048 ≤ c) × (c < 65536) × (length (encode_utf8 c) ≡ 3)) ⊎ ((65536 ≤ c) × (length (encode_utf8 c) ≡ 4))))
 lengths c =
     let d = has_digits c in
     elim (cases_lt c 128) [
@@ -55,26 +57,39 @@ block_one = record {
 pub block_two : IsBlock 192 1 128 2048
 block_two = record {
   text = λ c l m. (has_digits c).two l m;
-  long = λ c l e. elim (lengths c) [ inl a ↦ absurd (omega (arith, a.1)) | inr r ↦ elim r [ inl b ↦ (b.0, b.1) | inr s ↦ absurd (elim s [ inl b ↦ omega (arith, b.2) | inr b ↦ omega (arith, b.1) ]) ] ];
+  long = λ c l e. elim (lengths c) [
+    | inl a ↦ absurd (omega (arith, a.1))
+    | inr r ↦
+        elim r [ inl b ↦ (b.0, b.1) | inr s ↦ absurd (elim s [ inl b ↦ omega (arith, b.2) | inr b ↦ omega (arith, b.1) ]) ]
+  ];
 }
 
 pub block_three : IsBlock 224 2 2048 65536
 block_three = record {
   text = λ c l m. (has_digits c).three l m;
-  long = λ c l e. elim (lengths c) [ inl a ↦ absurd (omega (arith, a.1)) | inr r ↦ elim r [ inl b ↦ absurd (omega (arith, b.2)) | inr s ↦ elim s [ inl b ↦ (b.0, b.1) | inr b ↦ absurd (omega (arith, b.1)) ] ] ];
+  long = λ c l e. elim (lengths c) [
+    | inl a ↦ absurd (omega (arith, a.1))
+    | inr r ↦
+        elim r [ inl b ↦ absurd (omega (arith, b.2)) | inr s ↦ elim s [ inl b ↦ (b.0, b.1) | inr b ↦ absurd (omega (arith, b.1)) ] ]
+  ];
 }
 
 pub block_four : IsBlock 240 3 65536 1114112
 block_four = record {
   text = λ c l m. (has_digits c).four l;
-  long = λ c l e. elim (lengths c) [ inl a ↦ absurd (omega (arith, a.1)) | inr r ↦ elim r [ inl b ↦ absurd (omega (arith, b.2)) | inr s ↦ elim s [ inl b ↦ absurd (omega (arith, b.2)) | inr b ↦ (b.0, l) ] ] ];
+  long = λ c l e. elim (lengths c) [
+    | inl a ↦ absurd (omega (arith, a.1))
+    | inr r ↦
+        elim r [ inl b ↦ absurd (omega (arith, b.2)) | inr s ↦ elim s [ inl b ↦ absurd (omega (arith, b.2)) | inr b ↦ (b.0, l) ] ]
+  ];
 }
 
 -- the set has the numbers of the ranges from `from` on and below `end`
 abbrev pub IsPart : Ranges → ℕ → ℕ → Ranges → Type 0
 IsPart ranges from end part = (q : ℕ) → Covers part q ↔ IsPartOf ranges from end (0 + q)
 
-texts_of : (base tails from end : ℕ) (ranges part : Ranges) → AreCharacters ranges → IsBlock base tails from end → IsPart ranges from end part → (w : List ℕ) → IsBlockText base tails part w ↔ IsLongText ranges tails w
+texts_of : (base tails from end : ℕ) (ranges part : Ranges) → AreCharacters ranges → IsBlock base tails from end → IsPart ranges from end part →
+    (w : List ℕ) → IsBlockText base tails part w ↔ IsLongText ranges tails w
 texts_of base tails from end ranges part are block is w = (
   λ t. (let p = (is t.0).0 t.1 in
       let covers : Covers ranges t.0 = subst (Covers ranges) (omega arith) p.0 in

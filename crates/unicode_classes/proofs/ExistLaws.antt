@@ -100,8 +100,11 @@ some_groups base unit ranges positive apart (suc n) =
     let part = some_part ranges (n * unit) (n * unit + unit) (n * unit) (omega arith) (omega arith) apart in
     elim (same_or_not part.0 []) [
       | inl e ↦ (old.0, subst (λ (k : ℕ). AreGrouped base unit ranges k old.0) (omega arith) (grouped_same base unit ranges n old.0 (none_covers base unit ranges n part.0 part.2 e) old.1))
-      | inr some ↦ (let put = some_put (base + n) part.0 old.0 in
-          (put.0, subst (λ (k : ℕ). AreGrouped base unit ranges k put.0) (omega arith) (grouped_more base unit ranges n old.0 put.0 part.0 positive part.2 part.1 (some_number part.0 part.1 some) put.1 old.1)))
+      | inr some ↦ (let put = some_put (base + n) part.0 old.0 in (
+        put.0,
+        subst (λ (k : ℕ). AreGrouped base unit ranges k put.0) (omega arith)
+            (grouped_more base unit ranges n old.0 put.0 part.0 positive part.2 part.1 (some_number part.0 part.1 some) put.1 old.1),
+      ))
     ]
 
 -- ---- trees
@@ -137,10 +140,12 @@ some_tree zero base ranges apart few =
 some_tree (suc tails) base ranges apart few =
     let unit = 64 ^ suc tails in
     let groups = some_groups base unit ranges (unit_positive (suc tails)) apart 64 in
-    let trees = some_trees tails (λ rs h f. some_tree tails 128 rs h (λ l. f)) groups.0 (λ g k. (groups.1.apart g k, λ v c. (let b = groups.1.least g k in let h = groups.1.holds g b.0 k b.1.0 in let p = (h.3 v).0 c in omega (arith, p.2, unit_more tails)))) in
+    let trees = some_trees tails (λ rs h f. some_tree tails 128 rs h (λ l. f)) groups.0
+    (λ g k. (groups.1.apart g k, λ v c. (let b = groups.1.least g k in let h = groups.1.holds g b.0 k b.1.0 in let p = (h.3 v).0 c in omega (arith, p.2, unit_more tails)))) in
     (alternation (map group_tree trees.0), groups_tree base tails ranges groups.0 (few (omega arith)) groups.1 trees.0 trees.1)
 
-some_block : (base tails from end : ℕ) (ranges : Ranges) (ns : List ℕ) (arms : List Tree) → AreApart ranges → AreCharacters ranges → from < end → (0 < tails → end ≤ 64 * 64 ^ tails) → IsBlock base tails from end → AreArms ranges ns arms
+some_block : (base tails from end : ℕ) (ranges : Ranges) (ns : List ℕ) (arms : List Tree) → AreApart ranges → AreCharacters ranges → from < end →
+    (0 < tails → end ≤ 64 * 64 ^ tails) → IsBlock base tails from end → AreArms ranges ns arms
     → (new : List Tree) × AreArms ranges (ns ++ tails ∷ []) new
 some_block base tails from end ranges ns arms apart are some few block old =
     let part = some_part ranges from end 0 some (omega arith) apart in

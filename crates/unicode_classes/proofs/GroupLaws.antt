@@ -108,7 +108,8 @@ module _ (byte : ℕ) (tails : Ranges) where
       least_rest x (inl e) = are.least x (inl e)
       least_rest x (inr k) = are.least x (inr (inr k))
 
-  joined_below : (g : TailGroup) (gs : List TailGroup) (b : ℕ) → IsLeastIn g.bytes b → b < byte → AllByRecursion (StartsBelow g) gs → AllByRecursion (StartsBelow (record g { bytes = insert g.bytes byte })) gs
+  joined_below : (g : TailGroup) (gs : List TailGroup) (b : ℕ) → IsLeastIn g.bytes b → b < byte → AllByRecursion (StartsBelow g) gs →
+      AllByRecursion (StartsBelow (record g { bytes = insert g.bytes byte })) gs
   joined_below g [] b is l all = tt
   joined_below g (h ∷ gs) b is l all = (
     λ c d p q. (let e = one_least (record g { bytes = insert g.bytes byte }) c b p (least_same g b l is) in let m = all.0 b d is q in omega arith),
@@ -146,7 +147,8 @@ module _ (base unit : ℕ) (ranges : Ranges) where
   }
 
   -- where no number has the digit, the groups stay
-  pub grouped_same : (n : ℕ) (gs : List TailGroup) → ((q : ℕ) → IsPartOf ranges (n * unit) (n * unit + unit) (n * unit + q) → ⊥) → AreGrouped base unit ranges n gs → AreGrouped base unit ranges (n + 1) gs
+  pub grouped_same : (n : ℕ) (gs : List TailGroup) → ((q : ℕ) → IsPartOf ranges (n * unit) (n * unit + unit) (n * unit + q) → ⊥) →
+      AreGrouped base unit ranges n gs → AreGrouped base unit ranges (n + 1) gs
   grouped_same n gs none old = record {
     each = λ v c l. elim (cases_lt v (n * unit)) [
       | inl low ↦ old.each v c low
@@ -163,7 +165,8 @@ module _ (base unit : ℕ) (ranges : Ranges) where
       below : (v : ℕ) → n * unit ≤ v → v < (n + 1) * unit → n * unit + (v - n * unit) < n * unit + unit
       below v high l = omega (arith, l, next_unit n unit)
 
-  pub grouped_more : (n : ℕ) (gs new : List TailGroup) (tails : Ranges) → 0 < unit → ((q : ℕ) → Covers tails q ↔ IsPartOf ranges (n * unit) (n * unit + unit) (n * unit + q)) → AreApart tails → (q : ℕ) × Covers tails q
+  pub grouped_more : (n : ℕ) (gs new : List TailGroup) (tails : Ranges) → 0 < unit →
+      ((q : ℕ) → Covers tails q ↔ IsPartOf ranges (n * unit) (n * unit + unit) (n * unit + q)) → AreApart tails → (q : ℕ) × Covers tails q
       → IsPut (base + n) tails gs new → AreGrouped base unit ranges n gs → AreGrouped base unit ranges (n + 1) new
   grouped_more n gs new tails positive part apart some put old =
       let are : AreBelow (base + n) tails gs = record { below = λ g b k is. (let h = old.holds g b k is in omega (arith, h.1, h.2)); least = old.least } in record {
@@ -195,16 +198,19 @@ module _ (base unit : ℕ) (ranges : Ranges) where
       above v l = omega (arith, l, next_unit n unit)
 
   -- the part of a digit that is told otherwise
-  pub part_is : (n m : ℕ) (tails : Ranges) → n ≡ m → ((q : ℕ) → Covers tails q ↔ IsPartOf ranges (n * unit) (n * unit + unit) (n * unit + q)) → (q : ℕ) → Covers tails q ↔ IsPartOf ranges (m * unit) (m * unit + unit) (m * unit + q)
+  pub part_is : (n m : ℕ) (tails : Ranges) → n ≡ m → ((q : ℕ) → Covers tails q ↔ IsPartOf ranges (n * unit) (n * unit + unit) (n * unit + q)) →
+      (q : ℕ) → Covers tails q ↔ IsPartOf ranges (m * unit) (m * unit + unit) (m * unit + q)
   part_is n m tails e h = subst (λ (k : ℕ). (q : ℕ) → Covers tails q ↔ IsPartOf ranges (k * unit) (k * unit + unit) (k * unit + q)) e h
 
   -- a digit with a tail makes a byte
-  pub digit_fits : (n : ℕ) (tails : Ranges) → ((v : ℕ) → Covers ranges v → base + v / unit < 256) → ((q : ℕ) → Covers tails q ↔ IsPartOf ranges (n * unit) (n * unit + unit) (n * unit + q)) → (q : ℕ) × Covers tails q → base + n < 256
+  pub digit_fits : (n : ℕ) (tails : Ranges) → ((v : ℕ) → Covers ranges v → base + v / unit < 256) →
+      ((q : ℕ) → Covers tails q ↔ IsPartOf ranges (n * unit) (n * unit + unit) (n * unit + q)) → (q : ℕ) × Covers tails q → base + n < 256
   digit_fits n tails fits part some =
       let p = (part some.0).0 some.1 in
       let e : (n * unit + some.0) / unit ≡ n = at_place unit n (n * unit + some.0) p.1 p.2 in
       omega (arith, fits (n * unit + some.0) p.0, e)
 
   -- a digit without tails
-  pub none_covers : (n : ℕ) (tails : Ranges) → ((q : ℕ) → Covers tails q ↔ IsPartOf ranges (n * unit) (n * unit + unit) (n * unit + q)) → tails ≡ [] → (q : ℕ) → IsPartOf ranges (n * unit) (n * unit + unit) (n * unit + q) → ⊥
+  pub none_covers : (n : ℕ) (tails : Ranges) → ((q : ℕ) → Covers tails q ↔ IsPartOf ranges (n * unit) (n * unit + unit) (n * unit + q)) → tails ≡ [] →
+      (q : ℕ) → IsPartOf ranges (n * unit) (n * unit + unit) (n * unit + q) → ⊥
   none_covers n tails part e q h = subst (λ (rs : Ranges). Covers rs q) e ((part q).1 h)

@@ -125,7 +125,8 @@ same_test set p q same h c = (
 )
 
 -- the set that a call gives, where it gives one
-pub given_test : {E : Type 0} (r : Result Ranges E) (p q : ℕ → Bool) → ((c : ℕ) → c ≤ 1114111 → p c ≡ q c) → IfOk r (λ s. (c : ℕ) → Covers s c ↔ (IsScalar c × IsTrue (p c))) → IfOk r (λ s. (c : ℕ) → Covers s c ↔ (IsScalar c × IsTrue (q c)))
+pub given_test : {E : Type 0} (r : Result Ranges E) (p q : ℕ → Bool) → ((c : ℕ) → c ≤ 1114111 → p c ≡ q c) →
+    IfOk r (λ s. (c : ℕ) → Covers s c ↔ (IsScalar c × IsTrue (p c))) → IfOk r (λ s. (c : ℕ) → Covers s c ↔ (IsScalar c × IsTrue (q c)))
 given_test (Ok s) p q same h = same_test s p q same h
 given_test (Err e) p q same h = h
 

@@ -28,7 +28,8 @@ put_end byte tails (h ∷ gs) others = later h (others 0 h (omega arith)) (put_e
 one_at : (gs : List TailGroup) (k : ℕ) (g h : TailGroup) → k < length gs → g ≡ get_or gs k g → h ≡ get_or gs k h → g ≡ h
 one_at gs k g h l a b = a ∙ get_or_default gs k g h l ∙ sym b
 
-pub put_here : (byte : ℕ) (tails : List (ℕ × ℕ)) (gs start : List TailGroup) (k : ℕ) (g h m : TailGroup) (new : FinSet nat_cmp) → gs ≡ start → k < length gs → g ≡ get_or gs k g → h ≡ get_or gs k h → m ≡ get_or gs k m
+pub put_here : (byte : ℕ) (tails : List (ℕ × ℕ)) (gs start : List TailGroup) (k : ℕ) (g h m : TailGroup) (new : FinSet nat_cmp) → gs ≡ start →
+    k < length gs → g ≡ get_or gs k g → h ≡ get_or gs k h → m ≡ get_or gs k m
     → HaveOthersBelow gs tails k → g.tails ≡ tails → new ≡ union h.bytes (insert empty byte) → IsPut byte tails start (set gs k (record { bytes = new; tails = m.tails }))
 put_here byte tails gs start k g h m new begins l a b c others e u =
     let bytes : insert g.bytes byte ≡ new = ap (λ (x : TailGroup). insert x.bytes byte) (one_at gs k g h l a b) ∙ sym (with_single h.bytes byte) ∙ sym u in
@@ -39,7 +40,8 @@ put_here byte tails gs start k g h m new begins l a b c others e u =
     grouped_is : {s t : FinSet nat_cmp} {r q : List (ℕ × ℕ)} → s ≡ t → r ≡ q → ◌≡◌ {A = TailGroup} (record { bytes = s; tails = r }) (record { bytes = t; tails = q })
     grouped_is p q = λ i. record { bytes = p i; tails = q i }
 
-pub others_more : (gs : List TailGroup) (tails : List (ℕ × ℕ)) (k : ℕ) (g : TailGroup) → k < length gs → g ≡ get_or gs k g → HaveOthersBelow gs tails k → ¬ (g.tails ≡ tails) → HaveOthersBelow gs tails (k + 1)
+pub others_more : (gs : List TailGroup) (tails : List (ℕ × ℕ)) (k : ℕ) (g : TailGroup) → k < length gs → g ≡ get_or gs k g →
+    HaveOthersBelow gs tails k → ¬ (g.tails ≡ tails) → HaveOthersBelow gs tails (k + 1)
 others_more gs tails k g l is others differs j d b = elim (cases_lt j k) [
   | inl below ↦ others j d below
   | inr from ↦ (let e : j ≡ k = omega arith in
@@ -47,8 +49,10 @@ others_more gs tails k g l is others differs j d b = elim (cases_lt j k) [
 ]
 
 -- a new group behind all others
-pub put_behind : (byte : ℕ) (tails : List (ℕ × ℕ)) (gs start new : List TailGroup) (k : ℕ) (bytes : FinSet nat_cmp) → gs ≡ start → length gs ≤ k → HaveOthersBelow gs tails k → bytes ≡ insert empty byte
+pub put_behind : (byte : ℕ) (tails : List (ℕ × ℕ)) (gs start new : List TailGroup) (k : ℕ) (bytes : FinSet nat_cmp) → gs ≡ start → length gs ≤ k →
+    HaveOthersBelow gs tails k → bytes ≡ insert empty byte
     → new ≡ gs ++ record { bytes = bytes; tails = tails } ∷ [] → IsPut byte tails start new
 put_behind byte tails gs start new k bytes begins l others b e =
-    let p : IsPut byte tails gs (gs ++ record { bytes = bytes; tails = tails } ∷ []) = subst (λ (s : FinSet nat_cmp). IsPut byte tails gs (gs ++ record { bytes = s; tails = tails } ∷ [])) (sym b) (put_end byte tails gs (λ j d m. others j d (omega arith))) in
+    let p : IsPut byte tails gs (gs ++ record { bytes = bytes; tails = tails } ∷ []) =
+    subst (λ (s : FinSet nat_cmp). IsPut byte tails gs (gs ++ record { bytes = s; tails = tails } ∷ [])) (sym b) (put_end byte tails gs (λ j d m. others j d (omega arith))) in
     subst (λ (xs : List TailGroup). IsPut byte tails xs new) begins (subst (IsPut byte tails gs) (sym e) p)

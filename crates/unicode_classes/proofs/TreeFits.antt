@@ -50,7 +50,8 @@ one_byte W bytes long members [] = (λ r. absurd (let e : r.0 ∷ [] ≡ [] = r.
 one_byte W bytes long members (b ∷ []) = (λ r. (let e : r.0 ∷ [] ≡ b ∷ [] = r.2 in subst W e ((members r.0).0 r.1)), λ h. (b, (members b).1 h, refl))
 one_byte W bytes long members (b ∷ (c ∷ w)) = (λ r. absurd (let e : r.0 ∷ [] ≡ b ∷ (c ∷ w) = r.2 in cc), λ h. absurd (let e = long (b ∷ (c ∷ w)) h in omega (arith, e)))
 
-in_a_group : (n : ℕ) (W : Strings) (groups : List Group) → ((w : List ℕ) → W w → length w ≡ suc (suc n)) → AreGroups (IsTreeOf n) W groups → (w : List ℕ) → ((g : Group) × Has groups g × IsGroupText W g w) ↔ W w
+in_a_group : (n : ℕ) (W : Strings) (groups : List Group) → ((w : List ℕ) → W w → length w ≡ suc (suc n)) → AreGroups (IsTreeOf n) W groups →
+    (w : List ℕ) → ((g : Group) × Has groups g × IsGroupText W g w) ↔ W w
 in_a_group n W groups long are [] = (λ r. absurd (let e : r.2.0 ∷ r.2.1 ≡ [] = r.2.4 in cc), λ h. absurd (let e = long [] h in omega (arith, e)))
 in_a_group n W groups long are (b ∷ w) = (
   λ r. (let e : r.2.0 ∷ r.2.1 ≡ b ∷ w = r.2.4 in subst W e r.2.3),

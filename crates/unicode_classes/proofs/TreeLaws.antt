@@ -60,19 +60,24 @@ trees_push tails (x ∷ gs) [] g h are e t = absurd are
 trees_push tails (x ∷ gs) (y ∷ hs) g h are e t = (are.0, are.1, trees_push tails gs hs g h are.2 e t)
 
 -- the tree of a group, and the group of a tree
-tree_for : (tails : ℕ) (gs : List TailGroup) (hs : List Group) → AreTrees tails gs hs → (g : TailGroup) → Has gs g → (h : Group) × Has hs h × (h.bytes ≡ g.bytes) × IsTreeOf tails (IsBlockText 128 tails g.tails) h.tails
+tree_for : (tails : ℕ) (gs : List TailGroup) (hs : List Group) → AreTrees tails gs hs → (g : TailGroup) → Has gs g →
+    (h : Group) × Has hs h × (h.bytes ≡ g.bytes) × IsTreeOf tails (IsBlockText 128 tails g.tails) h.tails
 tree_for tails [] hs are g k = absurd k
 tree_for tails (x ∷ gs) [] are g k = absurd are
-tree_for tails (x ∷ gs) (y ∷ hs) are g (inl e) = subst (λ (z : TailGroup). (h : Group) × Has (y ∷ hs) h × (h.bytes ≡ z.bytes) × IsTreeOf tails (IsBlockText 128 tails z.tails) h.tails) e (y, inl refl, are.0, are.1)
+tree_for tails (x ∷ gs) (y ∷ hs) are g (inl e) =
+    subst (λ (z : TailGroup). (h : Group) × Has (y ∷ hs) h × (h.bytes ≡ z.bytes) × IsTreeOf tails (IsBlockText 128 tails z.tails) h.tails) e (y, inl refl, are.0, are.1)
 tree_for tails (x ∷ gs) (y ∷ hs) are g (inr k) = (let r = tree_for tails gs hs are.2 g k in (r.0, inr r.1, r.2, r.3))
 
-group_for : (tails : ℕ) (gs : List TailGroup) (hs : List Group) → AreTrees tails gs hs → (h : Group) → Has hs h → (g : TailGroup) × Has gs g × (h.bytes ≡ g.bytes) × IsTreeOf tails (IsBlockText 128 tails g.tails) h.tails
+group_for : (tails : ℕ) (gs : List TailGroup) (hs : List Group) → AreTrees tails gs hs → (h : Group) → Has hs h →
+    (g : TailGroup) × Has gs g × (h.bytes ≡ g.bytes) × IsTreeOf tails (IsBlockText 128 tails g.tails) h.tails
 group_for tails [] hs are h k = absurd (subst (λ (xs : List Group). Has xs h) are k)
 group_for tails (x ∷ gs) [] are h k = absurd are
-group_for tails (x ∷ gs) (y ∷ hs) are h (inl e) = subst (λ (z : Group). (g : TailGroup) × Has (x ∷ gs) g × (z.bytes ≡ g.bytes) × IsTreeOf tails (IsBlockText 128 tails g.tails) z.tails) e (x, inl refl, are.0, are.1)
+group_for tails (x ∷ gs) (y ∷ hs) are h (inl e) =
+    subst (λ (z : Group). (g : TailGroup) × Has (x ∷ gs) g × (z.bytes ≡ g.bytes) × IsTreeOf tails (IsBlockText 128 tails g.tails) z.tails) e (x, inl refl, are.0, are.1)
 group_for tails (x ∷ gs) (y ∷ hs) are h (inr k) = (let r = group_for tails gs hs are.2 h k in (r.0, inr r.1, r.2, r.3))
 
-trees_after : (tails : ℕ) (g : TailGroup) (h : Group) (gs : List TailGroup) (hs : List Group) → h.bytes ≡ g.bytes → AreTrees tails gs hs → AllByRecursion (StartsBelow g) gs → AllByRecursion (BeginsBelow h) hs
+trees_after : (tails : ℕ) (g : TailGroup) (h : Group) (gs : List TailGroup) (hs : List Group) → h.bytes ≡ g.bytes → AreTrees tails gs hs →
+    AllByRecursion (StartsBelow g) gs → AllByRecursion (BeginsBelow h) hs
 trees_after tails g h [] hs e are all = subst (AllByRecursion (BeginsBelow h)) (sym are) tt
 trees_after tails g h (x ∷ gs) [] e are all = absurd are
 trees_after tails g h (x ∷ gs) (y ∷ hs) e are all = (
@@ -182,17 +187,23 @@ module _ (base tails : ℕ) (ranges : Ranges) (gs : List TailGroup) (few : (v : 
 abbrev pub AreArmsOf : ℕ → List TailGroup → ℕ → List Tree → Type 0
 AreArmsOf tails gs k arms = (hs : List Group) × AreTrees tails (take k gs) hs × (arms ≡ map group_tree hs)
 
-pub arms_more : (tails : ℕ) (gs : List TailGroup) (k : ℕ) (g : TailGroup) (arms new : List Tree) (rest both : Tree) → k < length gs → g ≡ get_or gs k g → IsTreeOf tails (IsBlockText 128 tails g.tails) rest
+pub arms_more : (tails : ℕ) (gs : List TailGroup) (k : ℕ) (g : TailGroup) (arms new : List Tree) (rest both : Tree) → k < length gs →
+    g ≡ get_or gs k g → IsTreeOf tails (IsBlockText 128 tails g.tails) rest
     → both ≡ cat (one g.bytes) (cat rest cat_end) → new ≡ arms ++ both ∷ [] → AreArmsOf tails gs k arms → AreArmsOf tails gs (k + 1) new
 arms_more tails gs k g arms new rest both l is tree b e old =
     let h : Group = record { bytes = g.bytes; tails = rest } in
     let more : take (k + 1) gs ≡ take k gs ++ g ∷ [] = take_more gs k g l ∙ ap (λ (x : TailGroup). take k gs ++ x ∷ []) (sym is) in
     let pushed : AreTrees tails (take k gs ++ g ∷ []) (old.0 ++ h ∷ []) = trees_push tails (take k gs) old.0 g h old.1 refl tree in
-    let trees : map group_tree (old.0 ++ h ∷ []) ≡ map group_tree old.0 ++ group_tree h ∷ [] = map-append group_tree old.0 (h ∷ []) in
-    (old.0 ++ h ∷ [], subst (λ (xs : List TailGroup). AreTrees tails xs (old.0 ++ h ∷ [])) (sym more) pushed, e ∙ ap (λ (x : Tree). arms ++ x ∷ []) b ∙ ap (λ (xs : List Tree). xs ++ group_tree h ∷ []) old.2 ∙ sym trees)
+    let trees : map group_tree (old.0 ++ h ∷ []) ≡ map group_tree old.0 ++ group_tree h ∷ [] = map-append group_tree old.0 (h ∷ []) in (
+      old.0 ++ h ∷ [],
+      subst (λ (xs : List TailGroup). AreTrees tails xs (old.0 ++ h ∷ [])) (sym more) pushed,
+      e ∙
+          ap (λ (x : Tree). arms ++ x ∷ []) b ∙ ap (λ (xs : List Tree). xs ++ group_tree h ∷ []) old.2 ∙ sym trees,
+    )
 
 -- with all groups gone through, their alternation is the tree of the block
-pub arms_end : (base tails unit : ℕ) (ranges : Ranges) (gs : List TailGroup) (k : ℕ) (arms : List Tree) (f : Tree) → ¬ (tails ≡ 0) → unit ≡ 64 ^ tails → ((v : ℕ) → Covers ranges v → v < 64 * 64 ^ tails) → AreGrouped base unit ranges 64 gs
+pub arms_end : (base tails unit : ℕ) (ranges : Ranges) (gs : List TailGroup) (k : ℕ) (arms : List Tree) (f : Tree) → ¬ (tails ≡ 0) →
+    unit ≡ 64 ^ tails → ((v : ℕ) → Covers ranges v → v < 64 * 64 ^ tails) → AreGrouped base unit ranges 64 gs
     → length gs ≤ k → f ≡ alternation arms → AreArmsOf (tails - 1) gs k arms → IsTreeOf tails (IsBlockText base tails ranges) f
 arms_end base zero unit ranges gs k arms f some u few are l e old = absurd (some refl)
 arms_end base (suc tails) unit ranges gs k arms f some u few are l e old =

@@ -29,7 +29,8 @@ returns-in_err-follow_all-clause-fault c =
     (told_more (IsFollowRefusal c.args.left.now c.args.right.now keys0 c.find_all.new.self.ways.items) (IsSearchRefusal c.args.left.now c.args.right.now)
     (λ e told w lefts rights lead le.
     let empty : ArePairsWithin A.states B.states c.new-search.result.found.keys = subst (λ (ks : List Pair). ArePairsWithin A.states B.states ks) (sym c.new-search.ensures.found) (λ k h. absurd h) in
-    let within : ArePairsWithin A.states B.states keys0 = started_within c.starts.result.now c.starts-2.result.now c.new-search.result.found.keys keys0 A.states B.states c.in_ok-find_all.ensures.started empty
+    let within : ArePairsWithin A.states B.states keys0 = started_within c.starts.result.now c.starts-2.result.now c.new-search.result.found.keys
+    keys0 A.states B.states c.in_ok-find_all.ensures.started empty
     (λ p h. lefts p (subst (λ zs. Has zs p) c.starts.ensures h)) (λ q h. rights q (subst (λ zs. Has zs q) c.starts-2.ensures h)) in
     refusal_within A B (half_ways_of c.args.left.now) (half_ways_of c.args.right.now) keys0 c.find_all.new.self.ways.items e told w within lead (omega (arith, ap length none, le)))
     c.in_err-follow_all.field-0.0 c.in_err-follow_all.ensures.fault)

@@ -9,6 +9,7 @@ pub returns : goal.returns
 returns c =
     let p = c.args.state in
     c.split_at-2.ensures.front
-    ∙ row_between half_at c.args.stops.now c.split_at.result.1.now p c.partition_point-low.result c.partition_point-count.result c.requires c.split_at.ensures.back c.split_at.ensures.back_len c.partition_point-count.ensures.bound
+    ∙ row_between half_at c.args.stops.now c.split_at.result.1.now p c.partition_point-low.result c.partition_point-count.result c.requires
+    c.split_at.ensures.back c.split_at.ensures.back_len c.partition_point-count.ensures.bound
     (λ parted. IsPartitionPoint-from_clause (λ (x : HalfStop). ltb (half_at x) p) _ _ c.partition_point-low.ensures.partitioned parted (λ a r q k. search rules))
     (λ parted. IsPartitionPoint-from_clause (λ (x : HalfStop). leb (half_at x) p) _ _ c.partition_point-count.ensures.partitioned parted (λ a r q k. search rules))

@@ -12,5 +12,6 @@ pub loop-preserved : goal.loop-preserved
 loop-preserved c =
     let stop = c.next_stop-place.result in (
       omega (arith, c.next_stop-place.ensures.within, c.if-place-bytes.false),
-      kept_past c.args.sets.now c.args.bytes.now stop (kept_more c.args.sets.now c.args.bytes.now c.loop.place stop c.loop.invariant.1 c.next_stop-place.ensures.none) (c.keep_to.ensures c.if-keep_to.false),
+      kept_past c.args.sets.now c.args.bytes.now stop (kept_more c.args.sets.now c.args.bytes.now c.loop.place stop c.loop.invariant.1
+          c.next_stop-place.ensures.none) (c.keep_to.ensures c.if-keep_to.false),
     )

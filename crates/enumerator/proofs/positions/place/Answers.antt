@@ -4,7 +4,8 @@ use Rattle.enumerator.proofs.Placing.{ArePut, put_begins, put_step, put_ends, cl
 use Rattle.enumerator.proofs.positions.place.Goals as goal
 
 pub loop-rest-init : goal.loop-rest-init
-loop-rest-init c = subst (λ (n : ℕ). ArePut (positions_of c.args.positions.now) (c.args.at, n) c.number-rest.result c.args.positions.now) c.number-rest.ensures (put_begins c.args.positions.now (c.args.at, c.number-rest.result) c.told-positions)
+loop-rest-init c = subst (λ (n : ℕ). ArePut (positions_of c.args.positions.now) (c.args.at, n) c.number-rest.result c.args.positions.now)
+    c.number-rest.ensures (put_begins c.args.positions.now (c.args.at, c.number-rest.result) c.told-positions)
 
 pub loop-rest-smaller : goal.loop-rest-smaller
 loop-rest-smaller c =
@@ -21,4 +22,5 @@ loop-rest-preserved c =
 pub returns : goal.returns
 returns c = λ bit.
     let none : c.loop-rest.rest ≡ 0 = omega arith in
-    put_ends (positions_of c.args.positions.now) (c.args.at, c.args.marks) c.loop-rest.positions (subst (λ (n : ℕ). ArePut (positions_of c.args.positions.now) (c.args.at, c.args.marks) n c.loop-rest.positions) none c.loop-rest.invariant) bit
+    put_ends (positions_of c.args.positions.now) (c.args.at, c.args.marks) c.loop-rest.positions
+    (subst (λ (n : ℕ). ArePut (positions_of c.args.positions.now) (c.args.at, c.args.marks) n c.loop-rest.positions) none c.loop-rest.invariant) bit

@@ -89,8 +89,13 @@ loop-items-preserved-in-Elem c =
       same = λ trees are.
           let inv = l.invariant.same trees are in
           let step = rw c.in-Elem.is at c.in_ok-elem.ensures trees inv.0 inv.1 (c.is_after_elem.ensures inv.1 inv.2.1) in
-          let next = c.in_ok-items-in-Elem.ensures inv.0 inv.1 step.0 c.in-Elem.len inv.2 step.1 in
-          (next.0, next.1, next.2, inv.3 ∙ goes_read (with_characters trees) are c.args.negated c.args.from c.args.first l.read c.args.text.now rest inv.0 next.0 inv.1 next.1 c.in-Elem.len c.split_at.ensures.back (sym (step.2 ∙ next.3)));
+          let next = c.in_ok-items-in-Elem.ensures inv.0 inv.1 step.0 c.in-Elem.len inv.2 step.1 in (
+            next.0,
+            next.1,
+            next.2,
+            inv.3 ∙ goes_read (with_characters trees) are c.args.negated c.args.from c.args.first l.read c.args.text.now rest
+                inv.0 next.0 inv.1 next.1 c.in-Elem.len c.split_at.ensures.back (sym (step.2 ∙ next.3)),
+          );
     }
 
 pub loop-items-smaller : goal.loop-items-smaller
@@ -125,7 +130,8 @@ loop-items-preserved c =
             inv.0,
             after_dash dash.0 dash.1,
             c.with_dash-items.ensures inv.0 dash.0 dash.1 items,
-            inv.3 ∙ goes_read (with_characters trees) are c.args.negated c.args.from c.args.first l.read c.args.text.now rest inv.0 inv.0 inv.1 (after_dash dash.0 dash.1) 1 c.split_at.ensures.back (sym dash.3),
+            inv.3 ∙ goes_read (with_characters trees) are c.args.negated c.args.from c.args.first l.read c.args.text.now rest inv.0 inv.0 inv.1
+                (after_dash dash.0 dash.1) 1 c.split_at.ensures.back (sym dash.3),
           );
     }
 

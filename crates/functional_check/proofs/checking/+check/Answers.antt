@@ -48,7 +48,8 @@ check_arms-loop-k-preserved t c =
 
 pub check_arms-returns : goal.check_arms-returns
 check_arms-returns t c =
-    alt_done (trees_of c.args.arms.now) c.loop-k.k (members c.args.names.now c.loop-k.vars) (omega (arith, c.len-k-end.ensures, c.loop-k-test.false)) c.loop-k.invariant.sequential c.loop-k.invariant.vars
+    alt_done (trees_of c.args.arms.now) c.loop-k.k (members c.args.names.now c.loop-k.vars) (omega (arith, c.len-k-end.ensures, c.loop-k-test.false))
+    c.loop-k.invariant.sequential c.loop-k.invariant.vars
 
 pub check_among-check_parts-requires : goal.check_among-check_parts-requires
 check_among-check_parts-requires t c =
@@ -109,12 +110,14 @@ check_parts-loop-k-preserved t c =
 
 pub check_parts-returns-in-Some : goal.check_parts-returns-in-Some
 check_parts-returns-in-Some t c =
-    cat_done_fault (trees_of c.args.parts.now) c.loop-k.k c.in-Some.var (members c.args.names.now c.loop-k.twice) (omega (arith, c.len-k-end.ensures, c.loop-k-test.false)) c.loop-k.invariant.sequential
+    cat_done_fault (trees_of c.args.parts.now) c.loop-k.k c.in-Some.var (members c.args.names.now c.loop-k.twice)
+    (omega (arith, c.len-k-end.ensures, c.loop-k-test.false)) c.loop-k.invariant.sequential
     c.loop-k.invariant.twice c.in-Some.ensures
 
 pub check_parts-returns-in-None : goal.check_parts-returns-in-None
 check_parts-returns-in-None t c =
-    cat_done (trees_of c.args.parts.now) c.loop-k.k (members c.args.names.now c.loop-k.vars) (members c.args.names.now c.loop-k.twice) (omega (arith, c.len-k-end.ensures, c.loop-k-test.false)) c.loop-k.invariant.sequential
+    cat_done (trees_of c.args.parts.now) c.loop-k.k (members c.args.names.now c.loop-k.vars) (members c.args.names.now c.loop-k.twice)
+    (omega (arith, c.len-k-end.ensures, c.loop-k-test.false)) c.loop-k.invariant.sequential
     c.loop-k.invariant.vars c.loop-k.invariant.twice c.in-None.ensures
 
 pub check_among-returns-in-Empty : goal.check_among-returns-in-Empty

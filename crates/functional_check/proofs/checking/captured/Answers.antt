@@ -14,5 +14,8 @@ returns c =
     let vars = members names c.args.vars in
     let own = members names c.of.result in
     let all = members names c.union.result in
-    let absent : Has vars name → ⊥ = λ h. let t : false ≡ true = sym c.if-has.false ∙ c.has.ensures.1 h in absurd (cc) in
-    (absent, gathered_same vars all (Has own) (λ (x : VarName). name ≡ x) true (own_name names own name c.of.ensures c.requires) (members_either names c.args.vars c.of.result c.union.result c.union.ensures))
+    let absent : Has vars name → ⊥ = λ h. let t : false ≡ true = sym c.if-has.false ∙ c.has.ensures.1 h in absurd (cc) in (
+      absent,
+      gathered_same vars all (Has own) (λ (x : VarName). name ≡ x) true (own_name names own name c.of.ensures c.requires)
+          (members_either names c.args.vars c.of.result c.union.result c.union.ensures),
+    )

@@ -26,8 +26,10 @@ pub sure_among-sure_in_all-requires : goal.sure_among-sure_in_all-requires
 sure_among-sure_in_all-requires t c =
     let ts = trees_of c.in-Alt.arms in
     let e = ap tree_of c.in-Alt.is ∙ tree_of-Alt c.in-Alt.arms in
-    let built = subst IsWellBuilt e c.requires.built in
-    (omega (arith, ap nodes e, arms_nodes ts), (omega (arith, arms_two ts built), (arms_well_built ts built, (c.requires.ascending, λ x v. c.requires.among x (subst (λ f. HasVar f x) (sym e) ((arms_have ts x).1 v))))))
+    let built = subst IsWellBuilt e c.requires.built in (
+      omega (arith, ap nodes e, arms_nodes ts),
+      (omega (arith, arms_two ts built), (arms_well_built ts built, (c.requires.ascending, λ x v. c.requires.among x (subst (λ f. HasVar f x) (sym e) ((arms_have ts x).1 v))))),
+    )
 
 pub sure_in_all-sure_among-vars-requires : goal.sure_in_all-sure_among-vars-requires
 sure_in_all-sure_among-vars-requires t c =
@@ -84,7 +86,8 @@ sure_among-returns-in-Cap t c =
     let all = members names c.union.result in
     let e = ap tree_of c.in-Cap.is ∙ tree_of-Cap name c.in-Cap.sub in
     let has = c.requires.among name (subst (λ f. HasVar f name) (sym e) (inl (λ i. name))) in
-    let added = gathered_same vars all (Has own) (λ (x : VarName). name ≡ x) true (own_name names own name c.of.ensures has) (members_either names c.sure_among-vars-in-Cap.result c.of.result c.union.result c.union.ensures) in
+    let added = gathered_same vars all (Has own) (λ (x : VarName). name ≡ x) true (own_name names own name c.of.ensures has)
+    (members_either names c.sure_among-vars-in-Cap.result c.of.result c.union.result c.union.ensures) in
     let inner = subst (λ f. (x : VarName) → Has vars x ↔ IsSure (tree_of f) x) c.deref-in-Cap.ensures c.sure_among-vars-in-Cap.ensures in
     subst (λ f. (x : VarName) → Has all x ↔ IsSure f x) (sym e) (captured_sure name sub vars all inner added)
 

@@ -15,7 +15,8 @@ loop-instruction-preserved c =
     let symbols = c.loop-instruction.symbols in
     let held = c.args.plan.now.held.items in
     λ does. c.loop-instruction.invariant
-    (does_head symbols.registers.items symbols.made (drop symbols.done c.args.plan.now.actions.items) held code i a c.loop-instruction-test.true c.instruction-item.is (taken (drop (i + 1) code) held does))
+    (does_head symbols.registers.items symbols.made (drop symbols.done c.args.plan.now.actions.items) held code i a c.loop-instruction-test.true
+    c.instruction-item.is (taken (drop (i + 1) code) held does))
 
 pub returns : goal.returns
 returns c = λ on_it.
@@ -23,5 +24,6 @@ returns c = λ on_it.
     let symbols = c.loop-instruction.symbols in
     let has = c.args.plan.now.actions.ok.0 in
     c.loop-instruction.invariant
-    (does_end symbols.registers.items symbols.made c.args.plan.now.held.items c.args.code.now c.loop-instruction.instruction-index c.args.plan.now.actions.items symbols.done (omega (arith, c.loop-instruction-test.false)) (omega (arith, c.len.ensures, c.if-symbols-len.false))
+    (does_end symbols.registers.items symbols.made c.args.plan.now.held.items c.args.code.now c.loop-instruction.instruction-index
+    c.args.plan.now.actions.items symbols.done (omega (arith, c.loop-instruction-test.false)) (omega (arith, c.len.ensures, c.if-symbols-len.false))
     (held.0, sym c.as_slice-2.ensures.value ∙ (held.1 ∙ ap (λ (xs : List Register). xs ++ held.0) c.as_slice-3.ensures.value)))

@@ -17,7 +17,8 @@ pass_on-requires-clause-can g c =
 pub pass_on-requires-clause-covered : goal.pass_on-requires-clause-covered
 pass_on-requires-clause-covered g c =
     let cut = edges_cut c.args.edges.now c.loop-edge.edge-index c.edge-item.result (omega arith) c.edge-item.is in
-    let has : Has (edges_of c.args.edges.now) (c.edge-item.result.marks, c.edge-item.result.to) = rw cut.1 (Has-append_right (edges_of (take c.loop-edge.edge-index c.args.edges.now)) _ _ (inl refl)) in
+    let has : Has (edges_of c.args.edges.now) (c.edge-item.result.marks, c.edge-item.result.to) =
+    rw cut.1 (Has-append_right (edges_of (take c.loop-edge.edge-index c.args.edges.now)) _ _ (inl refl)) in
     let lt = c.requires.covered (c.edge-item.result.marks, c.edge-item.result.to) has in
     let k = c.loop-edge.invariant.known in
     omega arith
@@ -45,7 +46,8 @@ returns-then-is_none-clause-spent g c =
 pub link_edge-cell-requires-clause-covered : goal.link_edge-cell-requires-clause-covered
 link_edge-cell-requires-clause-covered g c =
     let cut = edges_cut c.args.edges.now c.loop-edge.edge-index c.edge-item.result (omega arith) c.edge-item.is in
-    let has : Has (edges_of c.args.edges.now) (c.edge-item.result.marks, c.edge-item.result.to) = rw cut.1 (Has-append_right (edges_of (take c.loop-edge.edge-index c.args.edges.now)) _ _ (inl refl)) in
+    let has : Has (edges_of c.args.edges.now) (c.edge-item.result.marks, c.edge-item.result.to) =
+    rw cut.1 (Has-append_right (edges_of (take c.loop-edge.edge-index c.args.edges.now)) _ _ (inl refl)) in
     let lt = c.requires.covered (c.edge-item.result.marks, c.edge-item.result.to) has in
     let k = c.loop-edge.invariant.known in
     omega arith

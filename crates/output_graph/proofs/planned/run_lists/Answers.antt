@@ -10,7 +10,8 @@ use Rattle.output_graph.proofs.planned.run_lists.Goals as goal
 
 pub run_code-requires-clause-leads : goal.run_code-requires-clause-leads
 run_code-requires-clause-leads g c =
-    plan_leads c.args.lists.plan.now.value c.args.registers.now.sources.items c.args.at c.args.was c.args.steps.now c.args.arena.now.cells c.args.arena.now.holds c.requires.plan c.requires.sound c.requires.place
+    plan_leads c.args.lists.plan.now.value c.args.registers.now.sources.items c.args.at c.args.was c.args.steps.now c.args.arena.now.cells
+    c.args.arena.now.holds c.requires.plan c.requires.sound c.requires.place
     (sym (length_cut _ _) ∙ c.requires.every)
 
 pub run_code-requires-clause-every : goal.run_code-requires-clause-every

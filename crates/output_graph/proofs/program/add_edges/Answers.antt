@@ -20,4 +20,5 @@ loop-edge-preserved c =
       | else-branch w ↦ w.kept-is ∙ or_no c.loop-edge.kept c.in_ok-add_edge.field-0 w.if-branch.false
     ] in
     rw (add-one, take_next c.args.edges.now i e there)
-    (edges_next c.args.source c.args.plan.now (take i c.args.edges.now) c.loop-edge.plan c.loop-edge.kept c.loop-edge.invariant e c.add_edge.new.plan c.in_ok-add_edge.field-0 c.if-branch.kept c.in_ok-add_edge.ensures now)
+    (edges_next c.args.source c.args.plan.now (take i c.args.edges.now) c.loop-edge.plan c.loop-edge.kept c.loop-edge.invariant e c.add_edge.new.plan
+    c.in_ok-add_edge.field-0 c.if-branch.kept c.in_ok-add_edge.ensures now)

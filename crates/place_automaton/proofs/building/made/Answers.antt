@@ -36,7 +36,13 @@ place-requires-clause-named c = vars_named (tree_of c.args.atom.now.formula) c.v
 pub states_of-states-requires : goal.states_of-states-requires
 states_of-states-requires c =
     let names = c.vars_of-vars.result in
-    omega (arith, c.in_ok-fragment.ensures.next, place_count (opening_of names) (closing_of names) (tree_of c.args.atom.now.formula) 1, same_places names (tree_of c.args.atom.now.formula) c.vars_of-vars.ensures, c.requires.states)
+    omega (
+      arith,
+      c.in_ok-fragment.ensures.next,
+      place_count (opening_of names) (closing_of names) (tree_of c.args.atom.now.formula) 1,
+      same_places names (tree_of c.args.atom.now.formula) c.vars_of-vars.ensures,
+      c.requires.states,
+    )
 
 pub with_ways-requires : goal.with_ways-requires
 with_ways-requires c = λ k d l.

@@ -49,7 +49,8 @@ count_places-returns-in-Rep t c = λ names.
     let w = subst IsWellBuilt e c.requires in
     let a = counts_over names f in
     let all = product_of c.from.result c.count_places.result (copies_of least most) a.places c.saturating_mul.result
-    (c.from.ensures ∙ (c.copies_of-copies.ensures ∙ capped_small (copies_of least most) (omega (arith, c.copies_of-copies.ensures, c.copies_of-copies.type_inv)))) (c.count_places.ensures names) c.saturating_mul.ensures in
+    (c.from.ensures ∙ (c.copies_of-copies.ensures ∙
+    capped_small (copies_of least most) (omega (arith, c.copies_of-copies.ensures, c.copies_of-copies.type_inv)))) (c.count_places.ensures names) c.saturating_mul.ensures in
     all ∙ ap capped (sym (repeated_places least most a (λ m is. (w.0.1.1 m is).0)) ∙ ap (λ (f : Tree). (counts_over names f).places) (sym e))
 
 pub sum_places-loop-k-preserved : goal.sum_places-loop-k-preserved
@@ -58,7 +59,8 @@ sum_places-loop-k-preserved t c = λ names.
     let k = c.loop-k.k in
     let f = tree_of c.at.result.now in
     let front = (counts_over names (cat_all (take k ts))).places in
-    sum_of c.loop-k.sum c.count_places-places.result front (counts_over names f).places c.saturating_add-sum.result (c.loop-k.invariant names) (c.count_places-places.ensures names) c.saturating_add-sum.ensures
+    sum_of c.loop-k.sum c.count_places-places.result front (counts_over names f).places c.saturating_add-sum.result (c.loop-k.invariant names)
+    (c.count_places-places.ensures names) c.saturating_add-sum.ensures
     ∙ ap capped (sym (parts_more (opening_of names) (closing_of names) (take k ts) f) ∙ ap (λ us. (counts_over names (cat_all us)).places) (sym (take_at_more ts k f c.at.ensures)))
 
 pub sum_places-returns : goal.sum_places-returns

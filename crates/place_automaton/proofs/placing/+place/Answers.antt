@@ -101,7 +101,14 @@ place_arms-place-requires t c =
             c.requires.distinct,
             (
               λ x v. c.requires.named x ((arms_have ts x).1 (part_has ts f x has v)),
-              omega (arith, c.loop-k.invariant.next, turn_total (opening_of names) (closing_of names) (take k ts) c.args.draft.now.next, arms_room (opening_of names) (closing_of names) ts, parts_room (opening_of names) (closing_of names) ts k f c.at.ensures, c.requires.room),
+              omega (
+                arith,
+                c.loop-k.invariant.next,
+                turn_total (opening_of names) (closing_of names) (take k ts) c.args.draft.now.next,
+                arms_room (opening_of names) (closing_of names) ts,
+                parts_room (opening_of names) (closing_of names) ts k f c.at.ensures,
+                c.requires.room,
+              ),
             ),
           ),
         ),
@@ -154,7 +161,13 @@ place_parts-place-requires t c =
             c.requires.distinct,
             (
               λ x v. c.requires.named x (part_has ts f x has v),
-              omega (arith, c.loop-k.invariant.next, turn_total (opening_of names) (closing_of names) (take k ts) c.args.draft.now.next, parts_room (opening_of names) (closing_of names) ts k f c.at.ensures, c.requires.room),
+              omega (
+                arith,
+                c.loop-k.invariant.next,
+                turn_total (opening_of names) (closing_of names) (take k ts) c.args.draft.now.next,
+                parts_room (opening_of names) (closing_of names) ts k f c.at.ensures,
+                c.requires.room,
+              ),
             ),
           ),
         ),
@@ -194,7 +207,8 @@ place_parts-returns t c =
     (λ p ends ways. row_done (length ts) (in_turn (placers names ts) a.next) (places_of names (cat_all ts) a.next) a c.loop-k.draft new xs p
     (parts_row (opening_of names) (closing_of names) ts a.next) row
     (ends ∙ (ap (λ (r : ℕ). row_sides r xs c.in_ok-rest.rest) c.len-2.ensures ∙ ap (λ (Q : Sides). row_sides (length ts) xs Q) c.in_ok-rest.ensures)) refl
-    (ways ∙ (ap (λ (r : ℕ). c.loop-k.draft.ways.items ++ row_ways r xs c.in_ok-rest.rest) c.len-2.ensures ∙ ap (λ (Q : Sides). c.loop-k.draft.ways.items ++ row_ways (length ts) xs Q) c.in_ok-rest.ensures)))
+    (ways ∙ (ap (λ (r : ℕ). c.loop-k.draft.ways.items ++ row_ways r xs c.in_ok-rest.rest) c.len-2.ensures ∙
+    ap (λ (Q : Sides). c.loop-k.draft.ways.items ++ row_ways (length ts) xs Q) c.in_ok-rest.ensures)))
     c.join_row.ensures.sides c.join_row.ensures.ways
 
 pub place_repeat-returns-then-copies-eq0 : goal.place_repeat-returns-then-copies-eq0
@@ -287,7 +301,17 @@ place_repeat-place_again-requires-clause-room t c =
     let all : (counts_over names (rep f c.args.least c.args.most)).places ≡ n * a =
     repeated_places c.args.least c.args.most (counts_over names f) (λ m e. (w.0.1.1 m e).0) ∙ ap (λ m. m * a) (sym c.copies_of-copies.ensures) in
     let some : i + 1 ≤ n = omega arith in
-    omega (arith, c.requires.room, all, c.added_since-added.ensures.places, c.in_ok-first.ensures.next, place_count (opening_of names) (closing_of names) f k, c.loop-copy.invariant.next, copies_total F a (place_count (opening_of names) (closing_of names) f) i k, copies_room i n a some)
+    omega (
+      arith,
+      c.requires.room,
+      all,
+      c.added_since-added.ensures.places,
+      c.in_ok-first.ensures.next,
+      place_count (opening_of names) (closing_of names) f k,
+      c.loop-copy.invariant.next,
+      copies_total F a (place_count (opening_of names) (closing_of names) f) i k,
+      copies_room i n a some,
+    )
 
 pub place_repeat-place_again-requires-clause-within : goal.place_repeat-place_again-requires-clause-within
 place_repeat-place_again-requires-clause-within t c =
@@ -383,7 +407,8 @@ place_repeat-returns-in_ok-rest-in-Some t c =
     (c.join_row.new.ways.items ≡ c.loop-copy.draft.ways.items ++ row_ways r xs Q)
     (λ p ends ways. row_done least (copies F m a.next) W a c.loop-copy.draft new xs p is row
     (ends ∙ (ap (λ (r : ℕ). row_sides r xs Q) c.from-required.ensures ∙ ap (λ (Q : Sides). row_sides least xs Q) c.in_ok-rest-in-Some.ensures)) refl
-    (ways ∙ (ap (λ (r : ℕ). c.loop-copy.draft.ways.items ++ row_ways r xs Q) c.from-required.ensures ∙ ap (λ (Q : Sides). c.loop-copy.draft.ways.items ++ row_ways least xs Q) c.in_ok-rest-in-Some.ensures)))
+    (ways ∙ (ap (λ (r : ℕ). c.loop-copy.draft.ways.items ++ row_ways r xs Q) c.from-required.ensures ∙
+    ap (λ (Q : Sides). c.loop-copy.draft.ways.items ++ row_ways least xs Q) c.in_ok-rest-in-Some.ensures)))
     c.join_row.ensures.sides c.join_row.ensures.ways
 
 pub place_repeat-returns-in-None : goal.place_repeat-returns-in-None

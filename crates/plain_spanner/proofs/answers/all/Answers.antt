@@ -54,4 +54,5 @@ returns c =
     let q = query_of c.args.query.now in
     let is = c.deref-2.ensures.value in
     let long : length c.deref-2.result.now ≡ length q.lets = omega (arith, ap length is, c.loop-k.invariant.0, c.loop-k-test.false, c.loop-k.auto.k-end, c.len-k-end.ensures) in
-    are_answers q c.args.doc.now (length c.deref-2.result.now) c.in_ok-table-2.table.names c.in_ok-table-2.table.rows.items c.sort_once.new.values.items long c.in_ok-table-2.ensures c.sort_once.ensures.in_order c.sort_once.ensures.keeps c.sort_once.ensures.adds_none
+    are_answers q c.args.doc.now (length c.deref-2.result.now) c.in_ok-table-2.table.names c.in_ok-table-2.table.rows.items
+    c.sort_once.new.values.items long c.in_ok-table-2.ensures c.sort_once.ensures.in_order c.sort_once.ensures.keeps c.sort_once.ensures.adds_none

@@ -57,7 +57,8 @@ reached_from-repeated_more-requires t c =
     let f = tree_of c.deref.result.now in
     let d = c.args.doc.now in
     let within : (k : ℕ) → Has c.deref-in-Rep-2.result.now k → k ≤ length d = λ k h.
-    leads_within (Times (Fit f d) c.in-Rep.least) (length d) c.args.starts.now c.in_ok-first-in-Rep.first.items (λ i j le h. times_stay f d c.in-Rep.least i j le h) c.requires.within c.in_ok-first-in-Rep.ensures k
+    leads_within (Times (Fit f d) c.in-Rep.least) (length d) c.args.starts.now c.in_ok-first-in-Rep.first.items
+    (λ i j le h. times_stay f d c.in-Rep.least i j le h) c.requires.within c.in_ok-first-in-Rep.ensures k
     (subst (λ (ys : List ℕ). Has ys k) c.deref-in-Rep-2.ensures.value h) in
     (omega (arith, n), ((w.0.0, omega (arith, deep)), (subst HasNoVar e c.requires.bare, (c.requires.short, within))))
 
@@ -105,8 +106,11 @@ in_turn-reached_from-requires t c =
     let g = cat_all (take c.loop-k.k ts) in
     let has = Has-slice_get ts c.loop-k.k (tree_of c.at.result.now) c.at.ensures in
     let within : (k : ℕ) → Has c.deref.result.now k → k ≤ length d = λ k h.
-    leads_within (Fit g d) (length d) c.args.starts.now c.loop-k.reached.items (λ i j le h. fit_within g d i j [] le h) c.requires.within c.loop-k.invariant k (subst (λ (ys : List ℕ). Has ys k) c.deref.ensures.value h) in
-    (omega (arith, part_nodes ts (tree_of c.at.result.now) has), (c.requires.built (tree_of c.at.result.now) has, (bare_part ts (tree_of c.at.result.now) has c.requires.bare, (c.requires.short, within))))
+    leads_within (Fit g d) (length d) c.args.starts.now c.loop-k.reached.items (λ i j le h. fit_within g d i j [] le h) c.requires.within
+    c.loop-k.invariant k (subst (λ (ys : List ℕ). Has ys k) c.deref.ensures.value h) in (
+      omega (arith, part_nodes ts (tree_of c.at.result.now) has),
+      (c.requires.built (tree_of c.at.result.now) has, (bare_part ts (tree_of c.at.result.now) has c.requires.bare, (c.requires.short, within))),
+    )
 
 pub in_turn-loop-k-init : goal.in_turn-loop-k-init
 in_turn-loop-k-init t c = leads_nothing c.args.starts.now c.in_ok-reached.reached.items c.in_ok-reached.ensures.items
@@ -128,7 +132,8 @@ in_turn-returns-then-is_empty t c =
     let d = c.args.doc.now in
     let k = c.loop-k.k in
     let none : c.loop-k.reached.items ≡ [] = empty_list c.loop-k.reached.items c.loop-k.reached.len (omega (arith, c.loop-k.reached.ok.0)) c.if-is_empty.ensures in
-    leads_none (Fit (cat_all (take k ts)) d) (λ n j _. (m : Captures) × Fit (cat_all (drop k ts)) d n j m) (Fit (cat_all ts) d) (turn_begins d ts k c.requires.bare) c.args.starts.now c.loop-k.reached.items none c.loop-k.invariant
+    leads_none (Fit (cat_all (take k ts)) d) (λ n j _. (m : Captures) × Fit (cat_all (drop k ts)) d n j m) (Fit (cat_all ts) d)
+    (turn_begins d ts k c.requires.bare) c.args.starts.now c.loop-k.reached.items none c.loop-k.invariant
 
 pub in_turn-returns : goal.in_turn-returns
 in_turn-returns t c =
@@ -139,15 +144,18 @@ in_turn-returns t c =
 pub by_arms-reached_from-requires : goal.by_arms-reached_from-requires
 by_arms-reached_from-requires t c =
     let ts = trees_of c.args.parts.now in
-    let has = Has-slice_get ts c.loop-k.k (tree_of c.at.result.now) c.at.ensures in
-    (omega (arith, part_nodes ts (tree_of c.at.result.now) has), (c.requires.built (tree_of c.at.result.now) has, (bare_part ts (tree_of c.at.result.now) has c.requires.bare, (c.requires.short, c.requires.within))))
+    let has = Has-slice_get ts c.loop-k.k (tree_of c.at.result.now) c.at.ensures in (
+      omega (arith, part_nodes ts (tree_of c.at.result.now) has),
+      (c.requires.built (tree_of c.at.result.now) has, (bare_part ts (tree_of c.at.result.now) has c.requires.bare, (c.requires.short, c.requires.within))),
+    )
 
 pub by_arms-loop-k-preserved : goal.by_arms-loop-k-preserved
 by_arms-loop-k-preserved t c =
     let ts = trees_of c.args.parts.now in
     let u = tree_of c.at.result.now in
     let R = λ (v : Tree) (j : ℕ). LeadsOn (Fit v c.args.doc.now) c.args.starts.now j in
-    from_more R (Has []) (Has c.loop-k.all.items) (Has c.append.new.self.items) ts c.loop-k.k u u (slice_get_within ts c.loop-k.k u c.at.ensures) (sym (get_or_from_slice_get ts c.loop-k.k u u c.at.ensures)) c.loop-k.invariant
+    from_more R (Has []) (Has c.loop-k.all.items) (Has c.append.new.self.items) ts c.loop-k.k u u (slice_get_within ts c.loop-k.k u c.at.ensures)
+    (sym (get_or_from_slice_get ts c.loop-k.k u u c.at.ensures)) c.loop-k.invariant
     (tells_appended_to c.loop-k.all.items c.in_ok-others.others.items c.append.new.self.items (R u) c.in_ok-append.ensures.items c.in_ok-others.ensures)
 
 pub by_arms-loop-k-init : goal.by_arms-loop-k-init
@@ -161,14 +169,16 @@ by_arms-returns t c =
     let d = c.args.doc.now in
     let R = λ (v : Tree) (j : ℕ). LeadsOn (Fit v d) c.args.starts.now j in
     let listed = tells_only (Has c.loop-k.all.items) (Has []) (FromSome R ts) (λ x h. h) (from_all R (Has []) (Has c.loop-k.all.items) ts c.loop-k.k (omega arith) (omega arith) c.loop-k.invariant) in
-    tells_through (Has c.sort_once.new.values.items) (Has c.loop-k.all.items) (LeadsOn (Fit (alt_all ts) d) c.args.starts.now) c.sort_once.ensures.adds_none c.sort_once.ensures.keeps (arms_done d ts c.args.starts.now (Has c.loop-k.all.items) listed)
+    tells_through (Has c.sort_once.new.values.items) (Has c.loop-k.all.items) (LeadsOn (Fit (alt_all ts) d) c.args.starts.now)
+    c.sort_once.ensures.adds_none c.sort_once.ensures.keeps (arms_done d ts c.args.starts.now (Has c.loop-k.all.items) listed)
 
 pub repeated-reached_from-requires : goal.repeated-reached_from-requires
 repeated-reached_from-requires t c =
     let f = tree_of c.args.sub.now in
     let d = c.args.doc.now in
     let within : (k : ℕ) → Has c.deref.result.now k → k ≤ length d = λ k h.
-    leads_within (Times (Fit f d) c.loop-count._count) (length d) c.args.starts.now c.loop-count.reached.items (λ i j le h. times_stay f d c.loop-count._count i j le h) c.requires.within c.loop-count.invariant k
+    leads_within (Times (Fit f d) c.loop-count._count) (length d) c.args.starts.now c.loop-count.reached.items
+    (λ i j le h. times_stay f d c.loop-count._count i j le h) c.requires.within c.loop-count.invariant k
     (subst (λ (ys : List ℕ). Has ys k) c.deref.ensures.value h) in
     (omega arith, (c.requires.built, (c.requires.bare, (c.requires.short, within))))
 
@@ -184,7 +194,8 @@ repeated-loop-count-preserved t c =
     let e : n + 1 ≡ suc n = omega arith in
     let bare = λ (i j : ℕ) (m : Captures) (h : Fit f d i j m). fit_no_vars f d i j m c.requires.bare h in
     let next = subst (λ (ys : List ℕ). Tells (Has c.in_ok-reached-2.reached.items) (LeadsOn P ys)) c.deref.ensures.value c.in_ok-reached-2.ensures in
-    leads_then (Times P n) P (Times P (n + 1)) (λ i j h. times_unsnoc P bare n i j (subst (λ m. Times P m i j []) e h)) (λ i k j p q. subst (λ m. Times P m i j []) (sym e) (times_snoc P bare n i k j p q))
+    leads_then (Times P n) P (Times P (n + 1)) (λ i j h. times_unsnoc P bare n i j (subst (λ m. Times P m i j []) e h))
+    (λ i k j p q. subst (λ m. Times P m i j []) (sym e) (times_snoc P bare n i k j p q))
     c.args.starts.now c.loop-count.reached.items (Has c.in_ok-reached-2.reached.items) c.loop-count.invariant next
 
 pub repeated-returns-then-is_empty : goal.repeated-returns-then-is_empty
@@ -195,7 +206,8 @@ repeated-returns-then-is_empty t c =
     let P = Fit f d in
     let bare = λ (i j : ℕ) (m : Captures) (h : Fit f d i j m). fit_no_vars f d i j m c.requires.bare h in
     let none : c.loop-count.reached.items ≡ [] = empty_list c.loop-count.reached.items c.loop-count.reached.len (omega (arith, c.loop-count.reached.ok.0)) c.if-is_empty.ensures in
-    leads_none (Times P n) (Times P (c.args.count - n)) (Times P c.args.count) (λ i j h. times_begin P bare n c.args.count i j (omega arith) h) c.args.starts.now c.loop-count.reached.items none c.loop-count.invariant
+    leads_none (Times P n) (Times P (c.args.count - n)) (Times P c.args.count) (λ i j h. times_begin P bare n c.args.count i j (omega arith) h)
+    c.args.starts.now c.loop-count.reached.items none c.loop-count.invariant
 
 pub repeated-returns : goal.repeated-returns
 repeated-returns t c =
@@ -242,7 +254,8 @@ repeated_more-returns-then-done-len t c =
     let d = c.args.doc.now in
     let bare = λ (i j : ℕ) (m : Captures) (h : Fit f d i j m). fit_no_vars f d i j m c.requires.bare h in
     subst (λ (xs : List ℕ). Tells (Has xs) (LeadsIn (Fit f d) 0 c.args.most c.args.starts.now)) (sym c.into_ends.ensures)
-    (rounds_done (Fit f d) bare c.args.starts.now c.loop-round._round c.args.most c.loop-round.done c.loop-round.reached.ends.items (omega arith) (c.if-done-len.true ∙ c.len.ensures) c.loop-round.invariant.1 c.loop-round.invariant.2)
+    (rounds_done (Fit f d) bare c.args.starts.now c.loop-round._round c.args.most c.loop-round.done c.loop-round.reached.ends.items (omega arith)
+    (c.if-done-len.true ∙ c.len.ensures) c.loop-round.invariant.1 c.loop-round.invariant.2)
 
 pub repeated_more-returns : goal.repeated_more-returns
 repeated_more-returns t c =

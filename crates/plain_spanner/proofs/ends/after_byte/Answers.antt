@@ -17,4 +17,5 @@ loop-start-preserved c =
 pub returns : goal.returns
 returns c =
     tells_only (Has c.loop-start.ends.items) (Has []) (LeadsOn (Fit (one c.args.set.now) c.args.doc.now) c.args.starts.now) (λ x h. h)
-    (from_all (λ i j. Fit (one c.args.set.now) c.args.doc.now i j []) (Has []) (Has c.loop-start.ends.items) c.args.starts.now c.loop-start.start-index c.loop-start.auto.start-index-end c.loop-start-test.false c.loop-start.invariant)
+    (from_all (λ i j. Fit (one c.args.set.now) c.args.doc.now i j []) (Has []) (Has c.loop-start.ends.items) c.args.starts.now
+    c.loop-start.start-index c.loop-start.auto.start-index-end c.loop-start-test.false c.loop-start.invariant)

@@ -76,8 +76,16 @@ in_turn-go_on-requires t c =
     let g = cat_all (take c.loop-k.k ts) in
     let u = tree_of c.at.result.now in
     let has = Has-slice_get ts c.loop-k.k u c.at.ensures in
-    let within = go_within (HasFit c.args.firsts.now) (Fit g d) (length d) c.loop-k.reached.items (λ i j m le h. fit_within g d i j m le h) c.requires.within c.loop-k.invariant in
-    (omega (arith, part_nodes ts u has), (c.requires.built u has, (sequential_part ts u has c.requires.sequential, (c.requires.short, subst (λ (xs : List CapturesAndEnds). EndWithin (length d) xs) (sym c.deref.ensures.value) within))))
+    let within = go_within (HasFit c.args.firsts.now) (Fit g d) (length d) c.loop-k.reached.items (λ i j m le h. fit_within g d i j m le h) c.requires.within c.loop-k.invariant in (
+      omega (arith, part_nodes ts u has),
+      (
+        c.requires.built u has,
+        (
+          sequential_part ts u has c.requires.sequential,
+          (c.requires.short, subst (λ (xs : List CapturesAndEnds). EndWithin (length d) xs) (sym c.deref.ensures.value) within),
+        ),
+      ),
+    )
 
 pub in_turn-loop-k-init : goal.in_turn-loop-k-init
 in_turn-loop-k-init t c = goes_nowhere c.args.firsts.now c.in_ok-reached.reached.items c.in_ok-reached.ensures
@@ -98,13 +106,15 @@ in_turn-returns-then-is_empty t c =
     let d = c.args.doc.now in
     let k = c.loop-k.k in
     let none : c.loop-k.reached.items ≡ [] = empty_list c.loop-k.reached.items c.loop-k.reached.len (omega (arith, c.loop-k.reached.ok.0)) c.if-is_empty.ensures in
-    goes_on_none (HasFit c.args.firsts.now) (Fit (cat_all (take k ts)) d) (Fit (cat_all (drop k ts)) d) (Fit (cat_all ts) d) (λ i j m h. cat_begins d ts k i j m h) c.loop-k.reached.items none c.loop-k.invariant
+    goes_on_none (HasFit c.args.firsts.now) (Fit (cat_all (take k ts)) d) (Fit (cat_all (drop k ts)) d) (Fit (cat_all ts) d)
+    (λ i j m h. cat_begins d ts k i j m h) c.loop-k.reached.items none c.loop-k.invariant
 
 pub in_turn-returns : goal.in_turn-returns
 in_turn-returns t c =
     let ts = trees_of c.args.parts.now in
     let e : c.loop-k.k ≡ length ts = omega arith in
-    subst (λ (us : List Tree). Tells (HasFit c.loop-k.reached.items) (Continued (HasFit c.args.firsts.now) (Fit (cat_all us) c.args.doc.now))) (ap (λ n. take n ts) e ∙ take-length ts) c.loop-k.invariant
+    subst (λ (us : List Tree). Tells (HasFit c.loop-k.reached.items) (Continued (HasFit c.args.firsts.now) (Fit (cat_all us) c.args.doc.now)))
+    (ap (λ n. take n ts) e ∙ take-length ts) c.loop-k.invariant
 
 pub by_arms-go_on-requires : goal.by_arms-go_on-requires
 by_arms-go_on-requires t c =
@@ -123,7 +133,8 @@ by_arms-loop-k-preserved t c =
     let ts = trees_of c.args.parts.now in
     let u = tree_of c.at.result.now in
     let R = λ (v : Tree) (f : EndAndCaptures). Continued (HasFit c.args.firsts.now) (Fit v c.args.doc.now) f in
-    from_more R (HasFit []) (HasFit c.loop-k.all.items) (HasFit c.append.new.self.items) ts c.loop-k.k u u (slice_get_within ts c.loop-k.k u c.at.ensures) (sym (get_or_from_slice_get ts c.loop-k.k u u c.at.ensures)) c.loop-k.invariant
+    from_more R (HasFit []) (HasFit c.loop-k.all.items) (HasFit c.append.new.self.items) ts c.loop-k.k u u
+    (slice_get_within ts c.loop-k.k u c.at.ensures) (sym (get_or_from_slice_get ts c.loop-k.k u u c.at.ensures)) c.loop-k.invariant
     (fits_appended c.loop-k.all.items c.in_ok-others.others.items c.append.new.self.items (R u) c.in_ok-append.ensures.items c.in_ok-others.ensures)
 
 pub by_arms-returns : goal.by_arms-returns
@@ -140,13 +151,15 @@ once_at_most-returns-then-least-gt0 t c =
 
 pub once_at_most-returns : goal.once_at_most-returns
 once_at_most-returns t c =
-    goes_once_or_not c.args.doc.now (tree_of c.args.sub.now) c.args.least (HasFit c.args.firsts.now) c.in_ok-all.all.items c.in_ok-none.none.items c.append.new.self.items (omega (arith, c.if-least-gt0.false)) c.in_ok-append.ensures.items c.in_ok-all.ensures
+    goes_once_or_not c.args.doc.now (tree_of c.args.sub.now) c.args.least (HasFit c.args.firsts.now) c.in_ok-all.all.items c.in_ok-none.none.items
+    c.append.new.self.items (omega (arith, c.if-least-gt0.false)) c.in_ok-append.ensures.items c.in_ok-all.ensures
     (goes_nowhere c.args.firsts.now c.in_ok-none.none.items c.in_ok-none.ensures)
 
 pub captured-add_captured-requires : goal.captured-add_captured-requires
 captured-add_captured-requires t c =
     let b = c.first-item.result in
-    let here : Has c.args.firsts.now b = subst (λ (x : CapturesAndEnds). Has c.args.firsts.now x) (sym c.first-item.is) (Has-get_or c.args.firsts.now c.loop-first.first-index b c.loop-first-test.true) in
+    let here : Has c.args.firsts.now b = subst (λ (x : CapturesAndEnds). Has c.args.firsts.now x) (sym c.first-item.is)
+    (Has-get_or c.args.firsts.now c.loop-first.first-index b c.loop-first-test.true) in
     let within : (k : ℕ) → Has b.1 k → k ≤ length c.args.doc.now = λ k h. c.requires.within (k, b.0) (b.1, here, h) in
     (omega arith, (c.requires.built, (c.requires.sequential.0, (c.requires.short, within))))
 
@@ -158,7 +171,8 @@ captured-loop-first-init t c =
 pub captured-loop-first-preserved : goal.captured-loop-first-preserved
 captured-loop-first-preserved t c =
     let R = λ (b : CapturesAndEnds) (f : EndAndCaptures). FromSome (CapturedFrom c.args.name.now (Fit (tree_of c.args.sub.now) c.args.doc.now) b.0) b.1 f in
-    from_more R (HasFit []) (HasFit c.loop-first.all.items) (HasFit c.add_captured.new.all.items) c.args.firsts.now c.loop-first.first-index c.first-item.result c.first-item.result c.loop-first-test.true c.first-item.is
+    from_more R (HasFit []) (HasFit c.loop-first.all.items) (HasFit c.add_captured.new.all.items) c.args.firsts.now c.loop-first.first-index
+    c.first-item.result c.first-item.result c.loop-first-test.true c.first-item.is
     c.loop-first.invariant c.in_ok-add_captured.ensures
 
 pub captured-returns : goal.captured-returns
@@ -202,11 +216,13 @@ add_captured-loop-place-preserved t c =
     let all = subst (λ (b : CapturesAndEnds). Tells (HasFit inner) (Continued (HasFit (b ∷ [])) (Fit g d))) c.in_ok-at.ensures c.in_ok-inner.ensures in
     let added = subst (λ (m : Captures). Tells (HasFit new) (λ f. HasFit c.loop-place.all.items f ⊎ FromSome (CapturedAt x i m) c.deref.result.now f)) c.captures-2.ensures c.in_ok-add_named.ensures in
     let added' = subst (λ (xs : List CapturesAndEnds). Tells (HasFit new) (λ f. HasFit c.loop-place.all.items f ⊎ FromSome (CapturedAt x i m0) xs f)) c.deref.ensures.value added in
-    from_more (CapturedFrom x (Fit g d) m0) (HasFit c.args.all.now.items) (HasFit c.loop-place.all.items) (HasFit new) places c.loop-place.place-index i 0 c.loop-place-test.true refl c.loop-place.invariant
+    from_more (CapturedFrom x (Fit g d) m0) (HasFit c.args.all.now.items) (HasFit c.loop-place.all.items) (HasFit new) places c.loop-place.place-index
+    i 0 c.loop-place-test.true refl c.loop-place.invariant
     (tells_or (HasFit new) (HasFit c.loop-place.all.items) (FromSome (CapturedAt x i m0) inner) (CapturedFrom x (Fit g d) m0 i) added' (named_tells x (Fit g d) m0 i inner all))
 
 pub add_captured-returns : goal.add_captured-returns
 add_captured-returns t c =
     let R = CapturedFrom c.args.name.now (Fit (tree_of c.args.sub.now) c.args.doc.now) c.args.first.now.0 in
-    let all = from_all R (HasFit c.args.all.now.items) (HasFit c.loop-place.all.items) c.ends-places.result.now c.loop-place.place-index c.loop-place.auto.place-index-end c.loop-place-test.false c.loop-place.invariant in
+    let all = from_all R (HasFit c.args.all.now.items) (HasFit c.loop-place.all.items) c.ends-places.result.now c.loop-place.place-index
+    c.loop-place.auto.place-index-end c.loop-place-test.false c.loop-place.invariant in
     subst (λ (xs : List ℕ). Tells (HasFit c.loop-place.all.items) (λ f. HasFit c.args.all.now.items f ⊎ FromSome R xs f)) c.ends-places.ensures all

@@ -49,12 +49,14 @@ loop-end-preserved c =
     let old = c.loop-end.all.items in
     let new = c.push.new.self.items in
     let b : CapturesAndEnds = (m0 ++ (x, s) ∷ m1, j ∷ []) in
-    let is : new ≡ old ++ b ∷ [] = c.in_ok-push.ensures.items ∙ ap (λ (e : CapturesAndEnds). old ++ e ∷ []) (c.in_ok-spanning.ensures ∙ ap (λ (m : Captures). let e : CapturesAndEnds = (m0 ++ (x, s) ∷ m, j ∷ []) in e) c.captures-2.ensures) in
+    let is : new ≡ old ++ b ∷ [] = c.in_ok-push.ensures.items ∙
+    ap (λ (e : CapturesAndEnds). old ++ e ∷ []) (c.in_ok-spanning.ensures ∙ ap (λ (m : Captures). let e : CapturesAndEnds = (m0 ++ (x, s) ∷ m, j ∷ []) in e) c.captures-2.ensures) in
     from_more (CapturedTo x i m0 m1) (HasFit c.args.all.now.items) (HasFit old) (HasFit new) ends c.loop-end.end-index j 0 c.loop-end-test.true refl c.loop-end.invariant
     (fits_appended old (b ∷ []) new (CapturedTo x i m0 m1 j) is (spanned x i j m0 m1 s c.new-span.ensures.start c.new-span.ensures.end))
 
 pub returns : goal.returns
 returns c =
     let R = CapturedTo c.args.name.now c.args.place c.args.captures.now c.args.inner.now.0 in
-    let all = from_all R (HasFit c.args.all.now.items) (HasFit c.loop-end.all.items) c.ends-ends.result.now c.loop-end.end-index c.loop-end.auto.end-index-end c.loop-end-test.false c.loop-end.invariant in
+    let all = from_all R (HasFit c.args.all.now.items) (HasFit c.loop-end.all.items) c.ends-ends.result.now c.loop-end.end-index
+    c.loop-end.auto.end-index-end c.loop-end-test.false c.loop-end.invariant in
     subst (λ (xs : List ℕ). Tells (HasFit c.loop-end.all.items) (λ f. HasFit c.args.all.now.items f ⊎ FromSome R xs f)) c.ends-ends.ensures all

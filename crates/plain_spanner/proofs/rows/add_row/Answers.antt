@@ -18,4 +18,5 @@ returns c =
     let w = c.some_ends_there.ensures.0 c.if-not-some_ends_there.false in
     let is : c.row_of_captures.result ≡ row_of names (span_of b.0) = c.row_of_captures.ensures ∙ ap (λ (m : Captures). row_of names (span_of m)) c.captures-2.ensures in
     rw c.in_ok-push.ensures.items
-    (tells_pushed (IsRowOfFits names c.args.to_end c.args.end b) c.args.rows.now.items c.row_of_captures.result (λ r q. is ∙ sym q.3) (w.0, subst (λ (xs : List ℕ). Has xs w.0) c.ends.ensures w.1, w.2, is))
+    (tells_pushed (IsRowOfFits names c.args.to_end c.args.end b) c.args.rows.now.items c.row_of_captures.result (λ r q. is ∙ sym q.3)
+    (w.0, subst (λ (xs : List ℕ). Has xs w.0) c.ends.ensures w.1, w.2, is))

@@ -8,9 +8,11 @@ loop-branch-init c = from_none (IsRowOfFits c.args.names.now c.args.to_end c.arg
 
 pub loop-branch-preserved : goal.loop-branch-preserved
 loop-branch-preserved c =
-    from_more (IsRowOfFits c.args.names.now c.args.to_end c.args.end) (Has c.args.rows.now.items) (Has c.loop-branch.rows.items) (Has c.add_row.new.rows.items) c.args.found.now c.loop-branch.branch-index c.branch-item.result c.branch-item.result
+    from_more (IsRowOfFits c.args.names.now c.args.to_end c.args.end) (Has c.args.rows.now.items) (Has c.loop-branch.rows.items)
+    (Has c.add_row.new.rows.items) c.args.found.now c.loop-branch.branch-index c.branch-item.result c.branch-item.result
     c.loop-branch-test.true c.branch-item.is c.loop-branch.invariant c.in_ok-add_row.ensures
 
 pub returns : goal.returns
 returns c =
-    from_all (IsRowOfFits c.args.names.now c.args.to_end c.args.end) (Has c.args.rows.now.items) (Has c.loop-branch.rows.items) c.args.found.now c.loop-branch.branch-index c.loop-branch.auto.branch-index-end c.loop-branch-test.false c.loop-branch.invariant
+    from_all (IsRowOfFits c.args.names.now c.args.to_end c.args.end) (Has c.args.rows.now.items) (Has c.loop-branch.rows.items) c.args.found.now
+    c.loop-branch.branch-index c.loop-branch.auto.branch-index-end c.loop-branch-test.false c.loop-branch.invariant

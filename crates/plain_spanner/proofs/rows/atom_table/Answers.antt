@@ -29,7 +29,8 @@ loop-from-preserved c =
     let names = c.gather-all.new.into in
     let found = c.in_ok-found.found.items in
     let all = subst (λ (b : CapturesAndEnds). Tells (HasFit found) (Continued (HasFit (b ∷ [])) (Fit g d))) c.in_ok-at.ensures c.in_ok-found.ensures in
-    let added = subst (λ (xs : List CapturesAndEnds). Tells (Has c.add_rows.new.rows.items) (λ r. Has c.loop-from.rows.items r ⊎ FromSome (IsRowOfFits names to_end (length d)) xs r)) c.deref.ensures.value c.in_ok-add_rows.ensures in
+    let added = subst (λ (xs : List CapturesAndEnds). Tells (Has c.add_rows.new.rows.items)
+    (λ r. Has c.loop-from.rows.items r ⊎ FromSome (IsRowOfFits names to_end (length d)) xs r)) c.deref.ensures.value c.in_ok-add_rows.ensures in
     places_more to_end g d names c.loop-from.from c.loop-from.rows.items c.add_rows.new.rows.items found c.loop-from.invariant all added
 
 pub sort_once-requires : goal.sort_once-requires
@@ -50,5 +51,6 @@ returns c =
         λ h. gathered_are g c.empty-names.result names c.gather-all.result c.empty-names.ensures c.if-prove.false c.gather-all.ensures.added x h,
         λ v. are_gathered g c.empty-names.result names c.gather-all.result c.empty-names.ensures c.if-prove.false c.gather-all.ensures.added x v,
       );
-      listed = tells_through (Has c.sort_once.new.values.items) (Has c.loop-from.rows.items) (IsRowOf (FitsSomewhere (atom_of atom) d) names) c.sort_once.ensures.adds_none c.sort_once.ensures.keeps listed;
+      listed = tells_through (Has c.sort_once.new.values.items) (Has c.loop-from.rows.items) (IsRowOf (FitsSomewhere (atom_of atom) d) names)
+          c.sort_once.ensures.adds_none c.sort_once.ensures.keeps listed;
     }

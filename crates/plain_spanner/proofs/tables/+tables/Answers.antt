@@ -63,7 +63,8 @@ expr_table-returns-in-Named t c =
     let at : slice_get c.args.tables.now k ≡ Some u = slice_get-get_or c.args.tables.now k u within ∙ ap Some (sym c.index-tables-k.is) in
     let known = c.requires.known k u at in
     subst (λ (w : ExprTree). IfOk c.over.result (λ t. IsTableOf q d n w t.names t.rows.items)) (sym e)
-    (ok_both c.over.result (λ (t : Table). t.names ≡ u.names) (λ (t : Table). Tells (Has t.rows.items) (FromSome (IsRowOver u.names u.names) u.rows.items)) (λ (t : Table). IsTableOf q d n (named k) t.names t.rows.items)
+    (ok_both c.over.result (λ (t : Table). t.names ≡ u.names)
+    (λ (t : Table). Tells (Has t.rows.items) (FromSome (IsRowOver u.names u.names) u.rows.items)) (λ (t : Table). IsTableOf q d n (named k) t.names t.rows.items)
     (λ t same rows. subst (λ (ns : List VarName). IsTableOf q d n (named k) ns t.rows.items) (sym same)
     (record { ascending = known.ascending; named = known.named; listed = kept_all (answers_of_lets q.lets d n k) u.names u.rows.items (Has t.rows.items) known.listed rows }))
     c.over.ensures.names c.over.ensures.rows)
@@ -119,7 +120,8 @@ expr_table-returns-in_ok-inner-in-Project t c =
     let known = c.in_ok-inner-in-Project.ensures in
     let in_names = λ (x : VarName) (h : Has names x). (known.named x).1 (a.sound_expr.1 x h).0 in
     subst (λ (w : ExprTree). IfOk c.over-in-Project.result (λ t. IsTableOf q d n w t.names t.rows.items)) (sym e)
-    (ok_both c.over-in-Project.result (λ (t : Table). t.names ≡ names) (λ (t : Table). Tells (Has t.rows.items) (FromSome (IsRowOver u.names names) u.rows.items)) (λ (t : Table). IsTableOf q d n (project names g) t.names t.rows.items)
+    (ok_both c.over-in-Project.result (λ (t : Table). t.names ≡ names)
+    (λ (t : Table). Tells (Has t.rows.items) (FromSome (IsRowOver u.names names) u.rows.items)) (λ (t : Table). IsTableOf q d n (project names g) t.names t.rows.items)
     (λ t same rows. subst (λ (ns : List VarName). IsTableOf q d n (project names g) ns t.rows.items) (sym same)
     (record {
       ascending = c.over-in-Project.ensures.ascending;
@@ -160,19 +162,23 @@ union_table-unite-requires t c =
     record {
       left = rows_of_table (VarOf V (union_all (take k es))) (Answer V A d (union_all (take k es))) c.loop-k.all.names c.loop-k.all.rows.items left;
       right = rows_of_table (VarOf V g) (Answer V A d g) c.in_ok-next.next.names c.in_ok-next.next.rows.items right;
-      room = room_of q (Has c.in_ok-next.next.names) c.loop-k.all.names asked.sound (λ x h. united_var q n k es x c.requires.asked ((left.named x).0 h)) (λ x h. asked_var q n g x asked ((right.named x).0 h));
+      room = room_of q (Has c.in_ok-next.next.names) c.loop-k.all.names asked.sound
+          (λ x h. united_var q n k es x c.requires.asked ((left.named x).0 h)) (λ x h. asked_var q n g x asked ((right.named x).0 h));
     }
 
 pub union_table-loop-k-preserved : goal.union_table-loop-k-preserved
 union_table-loop-k-preserved t c =
-    union_next (query_of c.args.query.now) c.args.doc.now (length c.args.tables.now) (exprs_of c.args.parts.now) c.loop-k.k (expr_of c.at.result.now) c.loop-k.all.names c.in_ok-next.next.names c.in_ok-all.all.names
-    c.loop-k.all.rows.items c.in_ok-next.next.rows.items c.in_ok-all.all.rows.items c.at.ensures c.loop-k.invariant c.in_ok-next.ensures c.in_ok-all.ensures.ascending c.in_ok-all.ensures.names c.in_ok-all.ensures.rows
+    union_next (query_of c.args.query.now) c.args.doc.now (length c.args.tables.now) (exprs_of c.args.parts.now) c.loop-k.k (expr_of c.at.result.now)
+    c.loop-k.all.names c.in_ok-next.next.names c.in_ok-all.all.names
+    c.loop-k.all.rows.items c.in_ok-next.next.rows.items c.in_ok-all.all.rows.items c.at.ensures c.loop-k.invariant c.in_ok-next.ensures
+    c.in_ok-all.ensures.ascending c.in_ok-all.ensures.names c.in_ok-all.ensures.rows
 
 pub union_table-returns : goal.union_table-returns
 union_table-returns t c =
     let es = exprs_of c.args.parts.now in
     let e : c.loop-k.k ≡ length es = omega arith in
-    subst (λ (gs : List ExprTree). IsTableOf (query_of c.args.query.now) c.args.doc.now (length c.args.tables.now) (union_all gs) c.loop-k.all.names c.loop-k.all.rows.items) (ap (λ k. take k es) e ∙ take-length es) c.loop-k.invariant
+    subst (λ (gs : List ExprTree). IsTableOf (query_of c.args.query.now) c.args.doc.now (length c.args.tables.now) (union_all gs) c.loop-k.all.names
+    c.loop-k.all.rows.items) (ap (λ k. take k es) e ∙ take-length es) c.loop-k.invariant
 
 pub join_table-loop-k-init : goal.join_table-loop-k-init
 join_table-loop-k-init t c =
@@ -206,19 +212,23 @@ join_table-join-requires t c =
     record {
       left = rows_of_table (VarOf V (join_all (take k es))) (Answer V A d (join_all (take k es))) c.loop-k.all.names c.loop-k.all.rows.items left;
       right = rows_of_table (VarOf V g) (Answer V A d g) c.in_ok-next.next.names c.in_ok-next.next.rows.items right;
-      room = room_of q (Has c.in_ok-next.next.names) c.loop-k.all.names asked.sound (λ x h. joined_var q n k es x c.requires.asked ((left.named x).0 h)) (λ x h. asked_var q n g x asked ((right.named x).0 h));
+      room = room_of q (Has c.in_ok-next.next.names) c.loop-k.all.names asked.sound
+          (λ x h. joined_var q n k es x c.requires.asked ((left.named x).0 h)) (λ x h. asked_var q n g x asked ((right.named x).0 h));
     }
 
 pub join_table-loop-k-preserved : goal.join_table-loop-k-preserved
 join_table-loop-k-preserved t c =
-    join_next (query_of c.args.query.now) c.args.doc.now (length c.args.tables.now) (exprs_of c.args.parts.now) c.loop-k.k (expr_of c.at.result.now) c.loop-k.all.names c.in_ok-next.next.names c.in_ok-all-2.all.names
-    c.loop-k.all.rows.items c.in_ok-next.next.rows.items c.in_ok-all-2.all.rows.items c.at.ensures c.loop-k.invariant c.in_ok-next.ensures c.in_ok-all-2.ensures.ascending c.in_ok-all-2.ensures.names c.in_ok-all-2.ensures.rows
+    join_next (query_of c.args.query.now) c.args.doc.now (length c.args.tables.now) (exprs_of c.args.parts.now) c.loop-k.k (expr_of c.at.result.now)
+    c.loop-k.all.names c.in_ok-next.next.names c.in_ok-all-2.all.names
+    c.loop-k.all.rows.items c.in_ok-next.next.rows.items c.in_ok-all-2.all.rows.items c.at.ensures c.loop-k.invariant c.in_ok-next.ensures
+    c.in_ok-all-2.ensures.ascending c.in_ok-all-2.ensures.names c.in_ok-all-2.ensures.rows
 
 pub join_table-returns : goal.join_table-returns
 join_table-returns t c =
     let es = exprs_of c.args.parts.now in
     let e : c.loop-k.k ≡ length es = omega arith in
-    subst (λ (gs : List ExprTree). IsTableOf (query_of c.args.query.now) c.args.doc.now (length c.args.tables.now) (join_all gs) c.loop-k.all.names c.loop-k.all.rows.items) (ap (λ k. take k es) e ∙ take-length es) c.loop-k.invariant
+    subst (λ (gs : List ExprTree). IsTableOf (query_of c.args.query.now) c.args.doc.now (length c.args.tables.now) (join_all gs) c.loop-k.all.names
+    c.loop-k.all.rows.items) (ap (λ k. take k es) e ∙ take-length es) c.loop-k.invariant
 
 pub expr_table-less-requires-clause-whole : goal.expr_table-less-requires-clause-whole
 expr_table-less-requires-clause-whole t c =
@@ -241,7 +251,8 @@ expr_table-returns-in_ok-second-in-Minus t c =
     let u = c.in_ok-first-in-Minus.first in
     let v = c.in_ok-second-in-Minus.second in
     subst (λ (w : ExprTree). IfOk c.less.result (λ t. IsTableOf q d n w t.names t.rows.items)) (sym e)
-    (ok_both c.less.result (λ (t : Table). t.names ≡ u.names) (λ (t : Table). Tells (Has t.rows.items) (IsLeft u.rows.items v.rows.items)) (λ (t : Table). IsTableOf q d n (minus f g) t.names t.rows.items)
+    (ok_both c.less.result (λ (t : Table). t.names ≡ u.names) (λ (t : Table). Tells (Has t.rows.items) (IsLeft u.rows.items v.rows.items))
+    (λ (t : Table). IsTableOf q d n (minus f g) t.names t.rows.items)
     (λ t same rows. subst (λ (ns : List VarName). IsTableOf q d n (minus f g) ns t.rows.items) (sym same)
     (left_table q d n f g u.names v.names u.rows.items v.rows.items t.rows.items c.in_ok-first-in-Minus.ensures c.in_ok-second-in-Minus.ensures a.sound_expr.2 rows))
     c.less.ensures.names c.less.ensures.rows)

@@ -45,9 +45,11 @@ loop-k-preserved c =
     let old = c.loop-k.known.items in
     let b = c.in-Ok.bound in
     let here =
-    subst (λ (known : List Bound). Passes (vars_known (bounds_in names known)) (sure_known (bounds_in names known)) l.1 × IsBoundOf (vars_known (bounds_in names known)) (sure_known (bounds_in names known)) l.1 (bound_in names b))
+    subst (λ (known : List Bound). Passes (vars_known (bounds_in names known)) (sure_known (bounds_in names known)) l.1 ×
+    IsBoundOf (vars_known (bounds_in names known)) (sure_known (bounds_in names known)) l.1 (bound_in names b))
     c.deref.ensures.value c.in-Ok.ensures in
-    let next = known_next q (bounds_in names old) c.loop-k.k l (bound_in names b) c.at.ensures (length-map old (bound_in names) ∙ c.loop-k.invariant.long) c.loop-k.invariant.knows c.loop-k.invariant.passed
+    let next = known_next q (bounds_in names old) c.loop-k.k l (bound_in names b) c.at.ensures (length-map old (bound_in names) ∙
+    c.loop-k.invariant.long) c.loop-k.invariant.knows c.loop-k.invariant.passed
     (c.requires.formed.0 c.loop-k.k l c.at.ensures) here.0 here.1 in
     let is : c.push.new.self.items ≡ old ++ b ∷ [] = c.in-Ok-push.ensures.items in
     let all : bounds_in names c.push.new.self.items ≡ bounds_in names old ++ bound_in names b ∷ [] = ap (bounds_in names) is ∙ map-append (bound_in names) old (b ∷ []) in
@@ -74,5 +76,6 @@ returns-clause-fault c =
     let known = c.loop-k.known.items in
     let over = c.loop-k-test.false in
     let all : (j : ℕ) → LetPasses q.lets j = λ j l is. c.loop-k.invariant.passed j (omega (arith, slice_get_within q.lets j l is, c.len-k-end.ensures, over)) l is in
-    inr (body_fault q (bounds_in names known) c.in-Err-check_expr.fault (omega (arith, length-map known (bound_in names), c.loop-k.invariant.long, c.len-k-end.ensures, over, c.loop-k.auto.k-end)) c.loop-k.invariant.knows all
+    inr (body_fault q (bounds_in names known) c.in-Err-check_expr.fault
+    (omega (arith, length-map known (bound_in names), c.loop-k.invariant.long, c.len-k-end.ensures, over, c.loop-k.auto.k-end)) c.loop-k.invariant.knows all
     (subst (λ (bs : List Bound). IsExprFault (vars_known (bounds_in names bs)) (sure_known (bounds_in names bs)) q.body c.in-Err-check_expr.fault) c.deref-2.ensures.value c.in-Err-check_expr.ensures))

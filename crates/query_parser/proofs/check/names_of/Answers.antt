@@ -14,7 +14,8 @@ gather_names-requires c = (c.loop-k.k, c.requires.0 c.loop-k.k (c.at.result.now.
 pub loop-k-preserved : goal.loop-k-preserved
 loop-k-preserved c =
     let l : VarName × ExprTree = (c.at.result.now.0, expr_of c.at.result.now.1) in
-    gathered_next (λ (l : VarName × ExprTree) (x : VarName). NameIn l.1 x) NameInLets let_in_turn (lets_of c.args.query.now.lets) c.loop-k.k l [] c.loop-k.names c.gather_names.new.into c.at.ensures c.loop-k.invariant
+    gathered_next (λ (l : VarName × ExprTree) (x : VarName). NameIn l.1 x) NameInLets let_in_turn (lets_of c.args.query.now.lets) c.loop-k.k l []
+    c.loop-k.names c.gather_names.new.into c.at.ensures c.loop-k.invariant
     c.if-not-gather_names.ensures
 
 pub returns-then-not-gather_names-clause-none : goal.returns-then-not-gather_names-clause-none

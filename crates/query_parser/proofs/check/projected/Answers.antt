@@ -28,7 +28,8 @@ loop-k-preserved c =
     let new = c.union-vars.result in
     let here : Has bound name = c.has.ensures.0 c.if-not-has.false in
     let own = own_name names (members names c.of.result) name c.of.ensures (members_within names c.args.bound.vars name here) in
-    let more = gathered_same (members names vars) (members names new) (Has (members names c.of.result)) (λ (x : VarName). name ≡ x) true own (members_either names vars c.of.result new c.union-vars.ensures) in
+    let more = gathered_same (members names vars) (members names new) (Has (members names c.of.result)) (λ (x : VarName). name ≡ x) true own
+    (members_either names vars c.of.result new c.union-vars.ensures) in
     record {
       vars = gathered_next (λ (y : VarName) (x : VarName). y ≡ x) Has names_in_turn keep c.loop-k.k name [] (members names vars) (members names new) at c.loop-k.invariant.vars more;
       known = λ x h. elim ((names_more keep c.loop-k.k name x at).0 h) as (λ _. Has bound x) [ inl o ↦ c.loop-k.invariant.known x o | inr e ↦ subst (Has bound) e here ];

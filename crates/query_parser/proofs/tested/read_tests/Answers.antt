@@ -41,10 +41,12 @@ loop-at-preserved c =
 
 pub returns-then-is_whole : goal.returns-then-is_whole
 returns-then-is_whole c =
-    tests_whole c.args.text.now c.args.from c.loop-at.at (tests_of c.loop-at.tests) c.is_whole.result c.loop-at.invariant.run (drop_all c.loop-at.at c.args.text.now (omega (arith, c.loop-at-test.false)))
+    tests_whole c.args.text.now c.args.from c.loop-at.at (tests_of c.loop-at.tests) c.is_whole.result c.loop-at.invariant.run
+    (drop_all c.loop-at.at c.args.text.now (omega (arith, c.loop-at-test.false)))
     c.is_whole.ensures c.if-is_whole.true
 
 pub returns : goal.returns
 returns c =
-    tests_cut c.args.text.now c.args.from c.loop-at.at (tests_of c.loop-at.tests) c.is_whole.result c.loop-at.invariant.run (drop_all c.loop-at.at c.args.text.now (omega (arith, c.loop-at-test.false)))
+    tests_cut c.args.text.now c.args.from c.loop-at.at (tests_of c.loop-at.tests) c.is_whole.result c.loop-at.invariant.run
+    (drop_all c.loop-at.at c.args.text.now (omega (arith, c.loop-at-test.false)))
     c.is_whole.ensures c.if-is_whole.false

@@ -36,7 +36,8 @@ push_atoms-returns-in-Union t c =
 pub push_atoms-returns-in-Join : goal.push_atoms-returns-in-Join
 push_atoms-returns-in-Join t c =
     let same = ap atoms_of (ap expr_of c.in-Join.is ∙ expr_of-Join c.in-Join.parts) ∙ of_join (exprs_of c.in-Join.parts) in
-    subst (λ (xs : List AtomTree). IfOk c.push_parts-in-Join.result (λ all. HasLines c.args.before c.args.text.now.items xs all c.push_parts-in-Join.new.text.items)) (sym same) c.push_parts-in-Join.ensures
+    subst (λ (xs : List AtomTree). IfOk c.push_parts-in-Join.result
+    (λ all. HasLines c.args.before c.args.text.now.items xs all c.push_parts-in-Join.new.text.items)) (sym same) c.push_parts-in-Join.ensures
 
 pub push_parts-push_atoms-requires : goal.push_parts-push_atoms-requires
 push_parts-push_atoms-requires t c =
@@ -79,4 +80,5 @@ push_atoms-returns-in_ok-atoms-in-Minus t c =
     let r = c.push_atoms-in-Minus-2.result in
     let new = c.push_atoms-in-Minus-2.new.text.items in
     subst (λ (e : ExprTree). IfOk r (λ all. HasLines c.args.before c.args.text.now.items (atoms_of e) all new)) (sym is)
-    (then_lines r c.args.before c.args.text.now.items (atoms_of f) c.in_ok-atoms-in-Minus.atoms c.push_atoms-in-Minus.new.text.items (atoms_of h) new c.in_ok-atoms-in-Minus.ensures c.push_atoms-in-Minus-2.ensures)
+    (then_lines r c.args.before c.args.text.now.items (atoms_of f) c.in_ok-atoms-in-Minus.atoms c.push_atoms-in-Minus.new.text.items (atoms_of h) new
+    c.in_ok-atoms-in-Minus.ensures c.push_atoms-in-Minus-2.ensures)

@@ -16,7 +16,8 @@ pub returns : goal.returns
 returns c =
     let q = query_of c.args.tested.now.query in
     let asked = c.args.tested.now.asked in
-    let lines = more_lines 0 c.push.new.self.items (atoms_in q.lets) c.in_ok-atoms.atoms c.push_let_atoms.new.text.items (atoms_of q.body) c.in_ok-_all._all c.push_atoms.new.text.items c.in_ok-atoms.ensures c.in_ok-_all.ensures in
+    let lines = more_lines 0 c.push.new.self.items (atoms_in q.lets) c.in_ok-atoms.atoms c.push_let_atoms.new.text.items (atoms_of q.body)
+    c.in_ok-_all._all c.push_atoms.new.text.items c.in_ok-atoms.ensures c.in_ok-_all.ensures in
     let shown = c.in_ok-print_tested.ensures.ok in (
       c.in_ok-vars.vars,
       c.in_ok-vars.ensures,

@@ -14,5 +14,6 @@ push_atoms-requires c =
 
 pub loop-k-preserved : goal.loop-k-preserved
 loop-k-preserved c =
-    let_lines 0 c.args.text.now.items (query_of c.args.query.now).lets c.loop-k.k c.at.result.now.0 (expr_of c.at.result.now.1) c.loop-k.atoms c.loop-k.text.items c.in_ok-atoms.atoms c.push_atoms.new.text.items
+    let_lines 0 c.args.text.now.items (query_of c.args.query.now).lets c.loop-k.k c.at.result.now.0 (expr_of c.at.result.now.1) c.loop-k.atoms
+    c.loop-k.text.items c.in_ok-atoms.atoms c.push_atoms.new.text.items
     c.at.ensures c.loop-k.invariant c.in_ok-atoms.ensures

@@ -41,7 +41,8 @@ returns-in_err-note-clause-part g c =
     let text = begun_text c.in_ok-page.page a c.args.rows.now.source _ _ (page_rows g.J.Judge.judges c.args.rows.now a.limit) c.in_ok-page.ensures c.vars.ensures c.document.ensures.document in
     on_err c.from_residual-in_err-note.result _
     (subst (λ (xs : List ℕ). AddsPart (change (g.O.Sink.told c.args.out.now) (g.O.Sink.told c.put_rows.new.out)) xs) text
-    (passes_part (g.O.Sink.told c.args.out.now) (g.O.Sink.told c.put_rows.new.out) (g.O.Sink.told c.put_rows.new.out) _ _ _ c.in-Ok.ensures.ok (part_nothing (g.O.Sink.told c.put_rows.new.out).bytes _)))
+    (passes_part (g.O.Sink.told c.args.out.now) (g.O.Sink.told c.put_rows.new.out) (g.O.Sink.told c.put_rows.new.out) _ _ _ c.in-Ok.ensures.ok
+    (part_nothing (g.O.Sink.told c.put_rows.new.out).bytes _)))
 
 pub returns-clause-part : goal.returns-clause-part
 returns-clause-part g c =

@@ -51,7 +51,8 @@ returns-then-not-advance-clause-end g c =
     let judges = g.J.Judge.judges in
     let s = c.args.rows.now.source in
     let none = goes_out judges s c.loop-remaining.rows.source c.loop-remaining.invariant.source c.loop-remaining.rows.rest [] [] c.if-not-advance.ensures.none.0 in
-    ends_none c.loop-remaining.remaining (passing_over judges s c.loop-remaining.rows.rest) (page_rows judges c.args.rows.now c.args.limit) (coming judges c.args.rows.now) none c.loop-remaining.invariant.more
+    ends_none c.loop-remaining.remaining (passing_over judges s c.loop-remaining.rows.rest) (page_rows judges c.args.rows.now c.args.limit)
+    (coming judges c.args.rows.now) none c.loop-remaining.invariant.more
 
 pub returns-then-not-advance-clause-steps : goal.returns-then-not-advance-clause-steps
 returns-then-not-advance-clause-steps g c =
@@ -62,7 +63,8 @@ returns-then-not-advance-clause-steps g c =
     let empty = ap length none in
     let same = c.loop-remaining.invariant.more in
     tried_all judges s c.args.rows.now.rest (page_rows judges c.args.rows.now c.args.limit) c.args.steps.now c.advance.new.steps (omega (arith, gone, empty, same))
-    (took_none judges s c.loop-remaining.rows.source c.loop-remaining.invariant.source c.args.rows.now.rest c.loop-remaining.rows.rest c.advance.new.self.rest c.loop-remaining.invariant.tried c.advance.ensures.left
+    (took_none judges s c.loop-remaining.rows.source c.loop-remaining.invariant.source c.args.rows.now.rest c.loop-remaining.rows.rest
+    c.advance.new.self.rest c.loop-remaining.invariant.tried c.advance.ensures.left
     c.args.steps.now c.loop-remaining.steps c.advance.new.steps c.loop-remaining.invariant.steps c.advance.result (search rules) c.if-not-advance.ensures.none.1 c.advance.ensures.steps)
 
 -- ---- one row more
@@ -98,7 +100,8 @@ returns-in-Err-clause-steps g c =
     tried_some judges s c.args.rows.now.rest c.advance.new.self.rest (page_rows judges c.args.rows.now c.args.limit)
     (ends_on c.args.rows.now.rest c.loop-remaining.rows.rest c.advance.new.self.rest c.loop-remaining.invariant.tried c.advance.ensures.left)
     c.args.steps.now c.advance.new.steps (omega (arith, one, ahead, same))
-    (took_found judges s c.loop-remaining.rows.source c.loop-remaining.invariant.source c.args.rows.now.rest c.loop-remaining.rows.rest c.advance.new.self.rest c.loop-remaining.invariant.tried c.advance.ensures.left
+    (took_found judges s c.loop-remaining.rows.source c.loop-remaining.invariant.source c.args.rows.now.rest c.loop-remaining.rows.rest
+    c.advance.new.self.rest c.loop-remaining.invariant.tried c.advance.ensures.left
     c.args.steps.now c.loop-remaining.steps c.advance.new.steps c.loop-remaining.invariant.steps c.advance.result (search rules) c.advance.ensures.steps)
 
 pub loop-remaining-smaller : goal.loop-remaining-smaller
@@ -126,7 +129,8 @@ loop-remaining-preserved g c =
       end = sym (ap (λ (rows : List SpanRow). page_end rows (row_if c.loop-remaining.some c.loop-remaining.rows.row)) front) ∙ c.loop-remaining.invariant.end;
       more = omega (arith, c.loop-remaining.invariant.more, one, ahead);
       tried = ends_on c.args.rows.now.rest c.loop-remaining.rows.rest c.advance.new.self.rest c.loop-remaining.invariant.tried c.advance.ensures.left;
-      steps = took_found judges s c.loop-remaining.rows.source c.loop-remaining.invariant.source c.args.rows.now.rest c.loop-remaining.rows.rest c.advance.new.self.rest c.loop-remaining.invariant.tried c.advance.ensures.left
+      steps = took_found judges s c.loop-remaining.rows.source c.loop-remaining.invariant.source c.args.rows.now.rest c.loop-remaining.rows.rest
+          c.advance.new.self.rest c.loop-remaining.invariant.tried c.advance.ensures.left
           c.args.steps.now c.loop-remaining.steps c.advance.new.steps c.loop-remaining.invariant.steps c.advance.result (search rules) c.advance.ensures.steps;
     }
 
@@ -157,7 +161,8 @@ returns-clause-end g c =
     let last = row_if c.loop-remaining.some c.loop-remaining.rows.row in
     let empty = ap length none in
     let same = c.loop-remaining.invariant.more in
-    ends_after judges s c.loop-remaining.rows.source c.loop-remaining.invariant.source c.loop-remaining.rows.rest c.advance-more.new.self.rest (page_rows judges c.args.rows.now c.args.limit) (coming judges c.args.rows.now)
+    ends_after judges s c.loop-remaining.rows.source c.loop-remaining.invariant.source c.loop-remaining.rows.rest c.advance-more.new.self.rest
+    (page_rows judges c.args.rows.now c.args.limit) (coming judges c.args.rows.now)
     c.advance-more.new.self.row c.last_row-last.result last c.advance-more.result _ c.advance-more.ensures.next c.advance-more.ensures.none (omega (arith, empty, same)) c.last_row-last.ensures
     (sym (ap (λ (rows : List SpanRow). page_end rows last) none) ∙ c.loop-remaining.invariant.end)
 
@@ -167,6 +172,7 @@ returns-clause-steps g c =
     let s = c.args.rows.now.source in
     let none = ap length (c.loop-remaining-test.ensures.none (passing_over judges s c.loop-remaining.rows.rest)) in
     let same = c.loop-remaining.invariant.more in
-    last_try judges s c.loop-remaining.rows.source c.loop-remaining.invariant.source c.args.rows.now.rest c.loop-remaining.rows.rest c.advance-more.new.self.rest c.loop-remaining.invariant.tried c.advance-more.ensures.left
+    last_try judges s c.loop-remaining.rows.source c.loop-remaining.invariant.source c.args.rows.now.rest c.loop-remaining.rows.rest
+    c.advance-more.new.self.rest c.loop-remaining.invariant.tried c.advance-more.ensures.left
     c.args.steps.now c.loop-remaining.steps c.advance-more.new.steps c.loop-remaining.invariant.steps (page_rows judges c.args.rows.now c.args.limit) c.advance-more.new.self.row c.advance-more.result
     c.advance-more.ensures.next c.advance-more.ensures.none (omega (arith, none, same)) c.advance-more.ensures.steps

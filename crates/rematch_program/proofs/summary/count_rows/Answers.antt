@@ -42,7 +42,8 @@ loop-row-preserved g c =
     let next = goes_on g.J.Judge.judges s t inv.source old new row c.in-Some-next.ensures.next in
     record {
       source = c.in-Some-next.ensures.source ∙ inv.source;
-      rows = one_counted c.loop-row.count c.saturating_add-count.result (length (passing_over g.J.Judge.judges s new)) (length (passing_over g.J.Judge.judges s old)) (length (coming g.J.Judge.judges c.args.rows.now)) (2 ^ 64 - 1)
+      rows = one_counted c.loop-row.count c.saturating_add-count.result (length (passing_over g.J.Judge.judges s new))
+          (length (passing_over g.J.Judge.judges s old)) (length (coming g.J.Judge.judges c.args.rows.now)) (2 ^ 64 - 1)
           c.saturating_add-count.ensures (ap length next) inv.rows;
       few = omega (arith, c.saturating_add-count.ensures);
       first = inv.first;
@@ -50,7 +51,8 @@ loop-row-preserved g c =
       first_fits = inv.first_fits;
       later_fits = fits_page g.J.Judge.judges s t inv.source [] [] row c.in-Some-next.ensures.fits;
       tried = ends_on c.args.rows.now.rest old new inv.tried c.in-Some-next.ensures.left;
-      steps = took_found g.J.Judge.judges s t inv.source c.args.rows.now.rest old new inv.tried c.in-Some-next.ensures.left c.args.steps.now c.loop-row.steps c.next-in-loop-row.new.steps inv.steps true refl c.in-Some-next.ensures.steps;
+      steps = took_found g.J.Judge.judges s t inv.source c.args.rows.now.rest old new inv.tried c.in-Some-next.ensures.left c.args.steps.now
+          c.loop-row.steps c.next-in-loop-row.new.steps inv.steps true refl c.in-Some-next.ensures.steps;
     }
 
 pub returns-clause-rows : goal.returns-clause-rows
@@ -64,6 +66,7 @@ pub returns-clause-steps : goal.returns-clause-steps
 returns-clause-steps g c =
     let s = c.args.rows.now.source in
     let inv = c.loop-row.invariant in
-    trial_takes (checks_over g.J.Judge.judges s) s.names s.document c.args.rows.now.rest (length s.asked) c.args.steps.now c.next-in-loop-row.new.steps (length_checks (known s.tests g.J.Judge.judges) s.asked)
+    trial_takes (checks_over g.J.Judge.judges s) s.names s.document c.args.rows.now.rest (length s.asked) c.args.steps.now
+    c.next-in-loop-row.new.steps (length_checks (known s.tests g.J.Judge.judges) s.asked)
     (took_none g.J.Judge.judges s c.loop-row.rows.source inv.source c.args.rows.now.rest c.loop-row.rows.rest c.next-in-loop-row.new.self.rest inv.tried c.in_default.ensures.left
     c.args.steps.now c.loop-row.steps c.next-in-loop-row.new.steps inv.steps false refl c.in_default.ensures.next.1 c.in_default.ensures.steps)

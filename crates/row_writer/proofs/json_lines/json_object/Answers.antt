@@ -30,5 +30,6 @@ returns c =
     let k = c.loop-k.k in
     let names : take k c.args.vars.now ≡ c.args.vars.now = take_all k c.args.vars.now (omega arith) in
     let spans : take k c.args.row.now ≡ c.args.row.now = take_all k c.args.row.now (omega arith) in
-    let whole = c.loop-k.invariant ∙ ap (λ (v : List (List ℕ)). json_members c.args.doc.now c.args.texts v (take k c.args.row.now)) names ∙ ap (λ (r : List (Option Span)). json_members c.args.doc.now c.args.texts c.args.vars.now r) spans in
+    let whole = c.loop-k.invariant ∙ ap (λ (v : List (List ℕ)). json_members c.args.doc.now c.args.texts v (take k c.args.row.now)) names ∙
+    ap (λ (r : List (Option Span)). json_members c.args.doc.now c.args.texts c.args.vars.now r) spans in
     view-Object c.loop-k.members ∙ ap object whole

@@ -91,7 +91,17 @@ returns-clause-behind c =
     let one = rises c.put_number-number.result c.put_rest-end.result c.put_number-number.new.buffer c.put_rest-end.new.buffer _
     (omega (arith, c.requires.room, c.requires.within, c.put_cells-end.ensures.end, c.put_start-front.ensures.end, c.put_number-number.ensures.end, count)) c.put_rest-end.ensures.text in
     let two = rises c.put_rest-end.result c.put_cells-end-2.result c.put_rest-end.new.buffer c.put_cells-end-2.new.buffer _
-    (omega (arith, c.requires.room, c.requires.within, c.put_cells-end.ensures.end, c.put_start-front.ensures.end, c.put_number-number.ensures.end, c.put_rest-end.ensures.end, quote, count)) c.put_cells-end-2.ensures.text in
+    (omega (
+      arith,
+      c.requires.room,
+      c.requires.within,
+      c.put_cells-end.ensures.end,
+      c.put_start-front.ensures.end,
+      c.put_number-number.ensures.end,
+      c.put_rest-end.ensures.end,
+      quote,
+      count,
+    )) c.put_cells-end-2.ensures.text in
     omega (arith, one, two)
 
 pub returns-clause-front : goal.returns-clause-front

@@ -23,7 +23,8 @@ loop-k-preserved c =
     let name = c.at-in-loop-k.result.now in
     let span = c.at-in-loop-k-2.result in
     record {
-      written = field_more 32 (take c.loop-k.end c.loop-k.buffer) (take c.put_byte-end.result c.put_byte-end.new.buffer) (take c.put_field-end-in-loop-k.result c.put_field-end-in-loop-k.new.buffer) (spans_field c.args.doc.now c.args.texts name span) _ _ _
+      written = field_more 32 (take c.loop-k.end c.loop-k.buffer) (take c.put_byte-end.result c.put_byte-end.new.buffer)
+          (take c.put_field-end-in-loop-k.result c.put_field-end-in-loop-k.new.buffer) (spans_field c.args.doc.now c.args.texts name span) _ _ _
           c.put_byte-end.ensures.text c.put_field-end-in-loop-k.ensures.text
           (spans_step c.args.doc.now c.args.texts c.args.vars.now c.args.row.now c.loop-k.k name span c.at-in-loop-k.ensures.value c.at-in-loop-k-2.ensures) c.loop-k.invariant.written;
       room = omega (arith, c.loop-k.invariant.room, c.put_byte-end.ensures.end, c.put_field-end-in-loop-k.ensures.end, room_step c.args.texts c.args.row.now c.loop-k.k span c.at-in-loop-k-2.ensures);

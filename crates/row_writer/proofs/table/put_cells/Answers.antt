@@ -22,7 +22,8 @@ pub loop-k-preserved : goal.loop-k-preserved
 loop-k-preserved c =
     let span = c.at-in-loop-k.result in
     record {
-      written = field_more 9 (take c.loop-k.end c.loop-k.buffer) (take c.put_byte-end.result c.put_byte-end.new.buffer) (take c.put_shown-end-in-loop-k.result c.put_shown-end-in-loop-k.new.buffer) (shown c.args.doc.now c.args.texts span) _ _ _
+      written = field_more 9 (take c.loop-k.end c.loop-k.buffer) (take c.put_byte-end.result c.put_byte-end.new.buffer)
+          (take c.put_shown-end-in-loop-k.result c.put_shown-end-in-loop-k.new.buffer) (shown c.args.doc.now c.args.texts span) _ _ _
           c.put_byte-end.ensures.text c.put_shown-end-in-loop-k.ensures.text
           (cells_step c.args.doc.now c.args.texts c.args.row.now c.loop-k.k span c.at-in-loop-k.ensures) c.loop-k.invariant.written;
       room = omega (arith, c.loop-k.invariant.room, c.put_byte-end.ensures.end, c.put_shown-end-in-loop-k.ensures.end, room_step c.args.texts c.args.row.now c.loop-k.k span c.at-in-loop-k.ensures);

@@ -20,7 +20,8 @@ returns-clause-codes c =
           let all : set_of w.put_rows.new.codes.items ≡ set_of found = gained_all c.clear.new.self.items w.put_rows.new.codes.items found c.clear.ensures.items g in
           ap set_of e ∙ (all ∙ by_members A members b)
       | else-is_grouped+in_ok-put_among w ↦
-          let e : c.if-is_grouped.codes.items ≡ codes_among members b A.ways = (λ i. (w.codes-is i).items) ∙ (w.in_ok-put_among.ensures ∙ (λ i. c.clear.ensures.items i ++ codes_among members b (w.ways.ensures i))) in
+          let e : c.if-is_grouped.codes.items ≡ codes_among members b A.ways = (λ i. (w.codes-is i).items) ∙
+          (w.in_ok-put_among.ensures ∙ (λ i. c.clear.ensures.items i ++ codes_among members b (w.ways.ensures i))) in
           ap set_of e
     ] in
     c.put_in_order.ensures ∙ gathered

@@ -9,4 +9,5 @@ pub returns-clause-none : goal.returns-clause-none
 returns-clause-none c =
     let members = c.args.members.now in
     let y = c.args.way.now in
-    subst (λ o. IfNone o (IsInside members y → ⊥)) (sym c.ok.ensures.value) (none_at members y c.binary_search.result (searched_at members y.to c.binary_search.result c.requires c.binary_search.ensures.position))
+    subst (λ o. IfNone o (IsInside members y → ⊥)) (sym c.ok.ensures.value)
+    (none_at members y c.binary_search.result (searched_at members y.to c.binary_search.result c.requires c.binary_search.ensures.position))

@@ -10,7 +10,8 @@ use Rattle.set_table.proofs.staying.stays_of.Goals.{then-is_grouped, else-is_gro
 use Rattle.set_table.proofs.staying.stays_of.Goals as goal
 
 pub returns-then-is_empty : goal.returns-then-is_empty
-returns-then-is_empty c = stays_nowhere c.args.automaton.now.graph c.args.members.now c.empty.result (eqb-true (length c.args.members.now) 0 (sym c.is_empty.ensures ∙ c.if-is_empty.true)) c.empty.ensures
+returns-then-is_empty c = stays_nowhere c.args.automaton.now.graph c.args.members.now c.empty.result
+    (eqb-true (length c.args.members.now) 0 (sym c.is_empty.ensures ∙ c.if-is_empty.true)) c.empty.ensures
 
 pub returns : goal.returns
 returns c =
@@ -23,7 +24,8 @@ returns c =
           (subst (AreGathered members _) (sym w.leading-is) w.add_from.ensures) (from_each A members) c.stays.ensures
       | else-is_grouped w ↦
           stays_told A members (filter (λ (y : Way). is_among members y.from) A.ways) c.if-is_grouped.leading c.stays.result c.requires.order some
-          (subst (AreGathered members _) (sym w.leading-is) (subst (λ ws. AreGathered members (filter (λ (y : Way). is_among members y.from) ws) w.add_among.new.self) w.ways.ensures w.add_among.ensures)) (from_all A members) c.stays.ensures
+          (subst (AreGathered members _) (sym w.leading-is)
+          (subst (λ ws. AreGathered members (filter (λ (y : Way). is_among members y.from) ws) w.add_among.new.self) w.ways.ensures w.add_among.ensures)) (from_all A members) c.stays.ensures
     ]
   where
     some_there : (n : ℕ) → (n ≡ 0 → ⊥) → 0 < n

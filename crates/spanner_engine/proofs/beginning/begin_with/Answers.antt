@@ -23,12 +23,14 @@ returns-in-Err-Full-lists-clause-fault g c =
 pub returns-in-Err-Full-lists-clause-steps : goal.returns-in-Err-Full-lists-clause-steps
 returns-in-Err-Full-lists-clause-steps g c =
     steps_read c.args.options.filter (query_of c.args.query.now) c.args.doc.now c.in-Ok.positions c.in-Ok.ensures.read
-    c.args.automaton.now c.requires.compiled c.is_marked.ensures c.args.cache.now.kept c.args.steps.now c.positions_read.new.steps c.lists.new.steps (row_kept (option_copied c.args.after)) c.positions_read.ensures.steps c.lists.ensures.steps
+    c.args.automaton.now c.requires.compiled c.is_marked.ensures c.args.cache.now.kept c.args.steps.now c.positions_read.new.steps c.lists.new.steps
+    (row_kept (option_copied c.args.after)) c.positions_read.ensures.steps c.lists.ensures.steps
 
 pub returns-in-Err-OutOfMemory-lists-clause-steps : goal.returns-in-Err-OutOfMemory-lists-clause-steps
 returns-in-Err-OutOfMemory-lists-clause-steps g c =
     steps_read c.args.options.filter (query_of c.args.query.now) c.args.doc.now c.in-Ok.positions c.in-Ok.ensures.read
-    c.args.automaton.now c.requires.compiled c.is_marked.ensures c.args.cache.now.kept c.args.steps.now c.positions_read.new.steps c.lists.new.steps (row_kept (option_copied c.args.after)) c.positions_read.ensures.steps c.lists.ensures.steps
+    c.args.automaton.now c.requires.compiled c.is_marked.ensures c.args.cache.now.kept c.args.steps.now c.positions_read.new.steps c.lists.new.steps
+    (row_kept (option_copied c.args.after)) c.positions_read.ensures.steps c.lists.ensures.steps
 
 pub returns-clause-left : goal.returns-clause-left
 returns-clause-left g c =
@@ -48,5 +50,6 @@ returns-clause-atoms g c = c.in-Ok.ensures.within
 pub returns-clause-steps : goal.returns-clause-steps
 returns-clause-steps g c =
     steps_sought c.args.options.filter (query_of c.args.query.now) c.args.doc.now c.in-Ok.positions c.in-Ok.ensures.read
-    c.args.automaton.now c.requires.compiled c.is_marked.ensures c.args.cache.now.kept c.args.steps.now c.positions_read.new.steps c.lists.new.steps c.from_row.new.steps c.new-rows.result.cells _ (row_kept (option_copied c.args.after))
+    c.args.automaton.now c.requires.compiled c.is_marked.ensures c.args.cache.now.kept c.args.steps.now c.positions_read.new.steps c.lists.new.steps
+    c.from_row.new.steps c.new-rows.result.cells _ (row_kept (option_copied c.args.after))
     c.positions_read.ensures.steps c.lists.ensures.steps c.new-rows.ensures.cells c.in-Ok-lists.ensures.cells c.from_row.ensures.steps

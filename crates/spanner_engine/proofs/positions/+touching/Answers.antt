@@ -35,7 +35,8 @@ touched_among-returns-in_err-found-clause-fault g t c =
 
 pub touched_among-returns-in_err-found-clause-steps : goal.touched_among-returns-in_err-found-clause-steps
 touched_among-returns-in_err-found-clause-steps g t c =
-    steps_part c.args.doc.now (exprs_of c.args.parts.now) c.loop-k.k (expr_of c.at.result.now) c.at.ensures c.args.steps.now c.loop-k.steps c.touched_in.new.steps c.loop-k.invariant.1 c.in_err-found.ensures.steps
+    steps_part c.args.doc.now (exprs_of c.args.parts.now) c.loop-k.k (expr_of c.at.result.now) c.at.ensures c.args.steps.now c.loop-k.steps
+    c.touched_in.new.steps c.loop-k.invariant.1 c.in_err-found.ensures.steps
 
 pub touched_among-loop-k-preserved : goal.touched_among-loop-k-preserved
 touched_among-loop-k-preserved g t c =

@@ -13,7 +13,8 @@ all_hold-requires-clause-fits g c =
     let q = query_of c.args.tested.now.query in
     let (front, is, fail, steps) = c.loop-answers.invariant.tried in
     let last = last_rest q c.args.doc.now c.args.vars.now front _ _ is c.requires.last in
-    first_fits q c.args.doc.now c.args.vars.now c.loop-answers.answers.rest c.advance-in-loop-answers.new.self.rest c.advance-in-loop-answers.new.self.row c.spans.result.now last c.loop-answers-test.ensures.next c.spans.ensures
+    first_fits q c.args.doc.now c.args.vars.now c.loop-answers.answers.rest c.advance-in-loop-answers.new.self.rest
+    c.advance-in-loop-answers.new.self.row c.spans.result.now last c.loop-answers-test.ensures.next c.spans.ensures
 
 pub returns-then-all_hold-clause-last : goal.returns-then-all_hold-clause-last
 returns-then-all_hold-clause-last g c =
@@ -36,7 +37,8 @@ loop-answers-preserved g c =
         front ++ row ∷ [],
         one_tried front c.loop-answers.answers.rest c.advance-in-loop-answers.new.self.rest c.args.answers.now.rest row is c.loop-answers-test.ensures.next,
         more_fail checks c.args.vars.now c.args.doc.now front row fail (rw (← shown) failing),
-        steps_more c.args.steps.now c.loop-answers.steps c.advance-in-loop-answers.new.steps c.all_hold.new.steps c.args.answers.now.variables c.loop-answers.answers.variables (length c.args.tested.now.asked) front row
+        steps_more c.args.steps.now c.loop-answers.steps c.advance-in-loop-answers.new.steps c.all_hold.new.steps c.args.answers.now.variables
+            c.loop-answers.answers.variables (length c.args.tested.now.asked) front row
             c.loop-answers.invariant.variables steps c.advance-in-loop-answers.ensures.steps c.all_hold.ensures.steps,
       );
     }

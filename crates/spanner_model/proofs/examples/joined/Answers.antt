@@ -35,13 +35,16 @@ one_x = (x, span 1 1) ∷ []
 
 dot_has_a : IsTrue (set.contains {R = nat_cmp} (set.difference (bytes_between 0 255) (set.insert set.empty 10)) 97)
 dot_has_a =
-    contains-difference nat_cmp_total (bytes_between 0 255) (set.insert set.empty 10) 97 ∙ ap (λ t. t && not (set.contains {R = nat_cmp} (set.insert set.empty 10) 97)) (contains-bytes_between 0 255 97)
+    contains-difference nat_cmp_total (bytes_between 0 255) (set.insert set.empty 10) 97 ∙
+    ap (λ t. t && not (set.contains {R = nat_cmp} (set.insert set.empty 10) 97)) (contains-bytes_between 0 255 97)
     ∙ ap (λ t. not t) (byte_has 10 97)
 
 fits_letters : Fit letters d 1 2 one_x
 fits_letters =
     fits_cap x (plus (one (bytes_between 97 98))) d 1 1 []
-    (fits_rep (one (bytes_between 97 98)) 1 1 d 1 2 (omega arith) (more_times (Fit (one (bytes_between 97 98)) d) 0 1 2 2 (fits_one (bytes_between 97 98) d 1 97 refl (contains-bytes_between 97 98 97)) (no_times (Fit (one (bytes_between 97 98)) d) 2))) (λ n. n)
+    (fits_rep (one (bytes_between 97 98)) 1 1 d 1 2 (omega arith)
+    (more_times (Fit (one (bytes_between 97 98)) d) 0 1 2 2 (fits_one (bytes_between 97 98) d 1 97 refl (contains-bytes_between 97 98 97))
+    (no_times (Fit (one (bytes_between 97 98)) d) 2))) (λ n. n)
 
 fits_before : Fit before_b d 1 3 one_x
 fits_before =

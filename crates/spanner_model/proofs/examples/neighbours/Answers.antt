@@ -30,7 +30,8 @@ whole i m n count more h g some_a some_b le =
     let right = fits_cat (cap y (plus b)) cat_end d (i + m) (i + m + n) (i + m + n) ((y, t) ∷ []) []
     (fits_cap y (plus b) d (i + m) n [] (fits_rep b 1 more d (i + m) (i + m + n) some_b g) (λ no_y. no_y)) (fits_end d (i + m + n)) (apart_none ((y, t) ∷ [])) in
     answers_free (cat_all (cap x (plus a) ∷ (cap y (plus b) ∷ []))) d i (i + m + n) ((x, s) ∷ ((y, t) ∷ [])) (x ∷ (y ∷ []))
-    (fits_cat (cap x (plus a)) (cat (cap y (plus b)) cat_end) d i (i + m) (i + m + n) ((x, s) ∷ []) ((y, t) ∷ []) (fits_cap x (plus a) d i m [] (fits_rep a 1 count d i (i + m) some_a h) (λ no_x. no_x)) right (apart_xy s t)) le
+    (fits_cat (cap x (plus a)) (cat (cap y (plus b)) cat_end) d i (i + m) (i + m + n) ((x, s) ∷ []) ((y, t) ∷ [])
+    (fits_cap x (plus a) d i m [] (fits_rep a 1 count d i (i + m) some_a h) (λ no_x. no_x)) right (apart_xy s t)) le
 
 pub returns : goal.returns
 returns args = (

@@ -19,7 +19,8 @@ at_place i at_a at_b at_c le =
     let t = span (i + 1) 1 in
     let three : i + 1 + 1 + 1 ≡ i + 3 = omega arith in
     let last = fits_cat c cat_end d (i + 1 + 1) (i + 1 + 1 + 1) (i + 1 + 1 + 1) [] [] (fits_byte 99 d (i + 1 + 1) at_c) (fits_end d (i + 1 + 1 + 1)) (none_apart []) in
-    let later = fits_cat (cap y b) (cat c cat_end) d (i + 1) (i + 1 + 1) (i + 1 + 1 + 1) ((y, t) ∷ []) [] (fits_cap y b d (i + 1) 1 [] (fits_byte 98 d (i + 1) at_b) (λ n. n)) last (apart_none ((y, t) ∷ [])) in
+    let later = fits_cat (cap y b) (cat c cat_end) d (i + 1) (i + 1 + 1) (i + 1 + 1 + 1) ((y, t) ∷ []) []
+    (fits_cap y b d (i + 1) 1 [] (fits_byte 98 d (i + 1) at_b) (λ n. n)) last (apart_none ((y, t) ∷ [])) in
     let all = fits_cat a (cat (cap y b) (cat c cat_end)) d i (i + 1) (i + 1 + 1 + 1) [] ((y, t) ∷ []) (fits_byte 97 d i at_a) later (none_apart ((y, t) ∷ [])) in
     let fit = fits_cap x inner d i 3 ((y, t) ∷ []) (subst (λ j. Fit inner d i j ((y, t) ∷ [])) three all) (λ h. elim h [ inl e ↦ x_not_y (sym e) | inr n ↦ n ]) in
     answers_free (cap x inner) d i (i + 3) ((x, span i 3) ∷ ((y, t) ∷ [])) (x ∷ (y ∷ [])) fit le

@@ -24,7 +24,8 @@ both = (x, span 0 1) ∷ ((y, span 1 0) ∷ [])
 
 fit : Fit (cat_all (cap x a ∷ (cap y (star b) ∷ []))) d 0 1 both
 fit =
-    let right = fits_cat (cap y (star b)) cat_end d 1 1 1 one_y [] (fits_cap y (star b) d 1 0 [] (fits_rep b 0 0 d 1 1 (omega arith) (no_times (Fit b d) 1)) (λ n. n)) (fits_end d 1) (apart_none one_y) in
+    let right = fits_cat (cap y (star b)) cat_end d 1 1 1 one_y []
+    (fits_cap y (star b) d 1 0 [] (fits_rep b 0 0 d 1 1 (omega arith) (no_times (Fit b d) 1)) (λ n. n)) (fits_end d 1) (apart_none one_y) in
     fits_cat (cap x a) (cat (cap y (star b)) cat_end) d 0 1 1 one_x one_y (fits_cap x a d 0 1 [] (fits_byte 97 d 0 refl) (λ n. n)) right (apart_xy (span 0 1) (span 1 0))
 
 kept : IsRestriction (Has (x ∷ [])) (span_of both) (span_of one_x)

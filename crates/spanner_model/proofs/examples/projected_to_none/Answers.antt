@@ -12,4 +12,21 @@ abbrev one_x : Captures
 one_x = (x, span 0 1) ∷ []
 
 pub returns : goal.returns
-returns args = (λ z. None, (span_of one_x, (0, 1, one_x, fits_cap x a d 0 1 [] (fits_byte 97 d 0 refl) (λ n. n), omega arith, λ t. absurd (cc), λ t. absurd (cc), λ z. refl), λ z. (λ n. absurd n, λ out. refl)), refl)
+returns args = (
+  λ z. None,
+  (
+    span_of one_x,
+    (
+      0,
+      1,
+      one_x,
+      fits_cap x a d 0 1 [] (fits_byte 97 d 0 refl) (λ n. n),
+      omega arith,
+      λ t. absurd (cc),
+      λ t. absurd (cc),
+      λ z. refl,
+    ),
+    λ z. (λ n. absurd n, λ out. refl),
+  ),
+  refl,
+)

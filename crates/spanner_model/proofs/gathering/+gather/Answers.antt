@@ -25,8 +25,10 @@ gather_parts-gather_formula-requires t c =
 
 pub gather_parts-returns-then-not-gather_formula : goal.gather_parts-returns-then-not-gather_formula
 gather_parts-returns-then-not-gather_formula t c =
-    gathered_no_more HasVar (λ ts. HasVar (cat_all ts)) parts_in_turn (trees_of c.args.parts.now) c.loop-k.k (tree_of c.at.result.now) c.args.into.now c.loop-k.into c.gather_formula.new.into c.at.ensures c.loop-k.invariant c.if-not-gather_formula.ensures
+    gathered_no_more HasVar (λ ts. HasVar (cat_all ts)) parts_in_turn (trees_of c.args.parts.now) c.loop-k.k (tree_of c.at.result.now) c.args.into.now
+    c.loop-k.into c.gather_formula.new.into c.at.ensures c.loop-k.invariant c.if-not-gather_formula.ensures
 
 pub gather_parts-loop-k-preserved : goal.gather_parts-loop-k-preserved
 gather_parts-loop-k-preserved t c =
-    gathered_next HasVar (λ ts. HasVar (cat_all ts)) parts_in_turn (trees_of c.args.parts.now) c.loop-k.k (tree_of c.at.result.now) c.args.into.now c.loop-k.into c.gather_formula.new.into c.at.ensures c.loop-k.invariant c.if-not-gather_formula.ensures
+    gathered_next HasVar (λ ts. HasVar (cat_all ts)) parts_in_turn (trees_of c.args.parts.now) c.loop-k.k (tree_of c.at.result.now) c.args.into.now
+    c.loop-k.into c.gather_formula.new.into c.at.ensures c.loop-k.invariant c.if-not-gather_formula.ensures

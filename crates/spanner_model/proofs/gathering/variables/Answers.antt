@@ -9,13 +9,15 @@ pub variables_of-vars-requires-clause-under : goal.variables_of-vars-requires-cl
 variables_of-vars-requires-clause-under c =
     let q = query_of c.args.query.now in
     let is = c.deref.ensures.value in
-    (asked_let q c.deref.result.now c.loop-k.k (c.at.result.now.0, expr_of c.at.result.now.1) c.requires (ap length is ∙ c.loop-k.invariant.0) (subst (λ (xs : List (List VarName)). Knows q.lets xs) (sym is) c.loop-k.invariant.1) c.at.ensures).under
+    (asked_let q c.deref.result.now c.loop-k.k (c.at.result.now.0, expr_of c.at.result.now.1) c.requires (ap length is ∙ c.loop-k.invariant.0)
+    (subst (λ (xs : List (List VarName)). Knows q.lets xs) (sym is) c.loop-k.invariant.1) c.at.ensures).under
 
 pub variables_of-vars-requires-clause-room : goal.variables_of-vars-requires-clause-room
 variables_of-vars-requires-clause-room c =
     let q = query_of c.args.query.now in
     let is = c.deref.ensures.value in
-    (asked_let q c.deref.result.now c.loop-k.k (c.at.result.now.0, expr_of c.at.result.now.1) c.requires (ap length is ∙ c.loop-k.invariant.0) (subst (λ (xs : List (List VarName)). Knows q.lets xs) (sym is) c.loop-k.invariant.1) c.at.ensures).room
+    (asked_let q c.deref.result.now c.loop-k.k (c.at.result.now.0, expr_of c.at.result.now.1) c.requires (ap length is ∙ c.loop-k.invariant.0)
+    (subst (λ (xs : List (List VarName)). Knows q.lets xs) (sym is) c.loop-k.invariant.1) c.at.ensures).room
 
 pub loop-k-preserved : goal.loop-k-preserved
 loop-k-preserved c =
@@ -47,5 +49,8 @@ returns c =
     let q = query_of c.args.query.now in
     let is = c.deref-2.ensures.value in
     let long : length c.deref-2.result.now ≡ length q.lets = omega (arith, ap length is, c.loop-k.invariant.0, c.loop-k-test.false, c.loop-k.auto.k-end, c.len-k-end.ensures) in
-    let knows : Knows q.lets c.deref-2.result.now = subst (λ (xs : List (List VarName)). Knows q.lets xs) (sym is) c.loop-k.invariant.1 in
-    (c.variables_of.ensures.ascending, λ x. let v = result_vars q c.deref-2.result.now x long knows in (λ h. v.0 ((c.variables_of.ensures.names x).0 h), λ h. (c.variables_of.ensures.names x).1 (v.1 h)))
+    let knows : Knows q.lets c.deref-2.result.now = subst (λ (xs : List (List VarName)). Knows q.lets xs) (sym is) c.loop-k.invariant.1 in (
+      c.variables_of.ensures.ascending,
+      λ x. let v = result_vars q c.deref-2.result.now x long knows in
+          (λ h. v.0 ((c.variables_of.ensures.names x).0 h), λ h. (c.variables_of.ensures.names x).1 (v.1 h)),
+    )

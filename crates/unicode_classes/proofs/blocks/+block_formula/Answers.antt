@@ -42,7 +42,8 @@ loop-group-preserved t c =
     let both = tree_of-Cat c.in_ok-both.both ∙ ap cat_all c.in_ok-both.ensures ∙ ap (λ (x : Tree). cat x (cat (tree_of c.in_ok-rest.rest) cat_end)) (tree_of-One g.bytes) in
     record {
       proper = c.in_ok-arms.ensures.proper;
-      trees = arms_more tails c.deref-group-items.result.now c.loop-group.group-index g (arm_trees c.loop-group.arms) (arm_trees c.in_ok-arms.arms) (tree_of c.in_ok-rest.rest) _ c.loop-group-test.true c.group-item.is tree both
+      trees = arms_more tails c.deref-group-items.result.now c.loop-group.group-index g (arm_trees c.loop-group.arms) (arm_trees c.in_ok-arms.arms)
+          (tree_of c.in_ok-rest.rest) _ c.loop-group-test.true c.group-item.is tree both
           c.in_ok-arms.ensures.trees c.loop-group.invariant.trees;
     }
 
@@ -50,5 +51,6 @@ pub returns : goal.returns
 returns t c =
     let gs = c.deref-group-items.result.now in
     let are = subst (AreGrouped c.args.base c.unit_of.result c.args.ranges.now 64) (sym c.deref-group-items.ensures.value) c.in_ok-groups.ensures in
-    arms_end c.args.base c.args.tails c.unit_of.result c.args.ranges.now gs c.loop-group.group-index (arm_trees c.loop-group.arms) (tree_of c.alternation_of.result) c.if-tails-eq0.false c.unit_of.ensures (c.requires.few (omega (arith, c.if-tails-eq0.false))) are
+    arms_end c.args.base c.args.tails c.unit_of.result c.args.ranges.now gs c.loop-group.group-index (arm_trees c.loop-group.arms)
+    (tree_of c.alternation_of.result) c.if-tails-eq0.false c.unit_of.ensures (c.requires.few (omega (arith, c.if-tails-eq0.false))) are
     c.loop-group-test.false c.alternation_of.ensures c.loop-group.invariant.trees

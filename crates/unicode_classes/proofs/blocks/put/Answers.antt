@@ -23,4 +23,5 @@ loop-k-preserved c =
 pub returns : goal.returns
 returns c =
     let l : length c.loop-k.groups.items ≤ c.loop-k.k = omega (arith, c.loop-k-test.false, c.len-k-end.ensures, c.args.groups.now.ok.0, ap (length {A = TailGroup}) c.loop-k.invariant.same) in
-    put_behind c.args.byte c.args.tails c.loop-k.groups.items c.args.groups.now.items c.push.new.self.items c.loop-k.k c.single-2.result c.loop-k.invariant.same l c.loop-k.invariant.others c.single-2.ensures c.in_ok-push.ensures.items
+    put_behind c.args.byte c.args.tails c.loop-k.groups.items c.args.groups.now.items c.push.new.self.items c.loop-k.k c.single-2.result
+    c.loop-k.invariant.same l c.loop-k.invariant.others c.single-2.ensures c.in_ok-push.ensures.items

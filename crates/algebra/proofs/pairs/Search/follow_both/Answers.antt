@@ -35,7 +35,8 @@ returns-in_err-to-clause-fault c =
     let x = c.args.x.now in
     let y = c.args.y.now in
     let same : nat_eq x.shared y.shared ≡ true = eq-eqb x.shared y.shared (sym c.number.ensures ∙ (c.if-number.false ∙ c.number-2.ensures)) in
-    let some : has_some (meet x.way.bytes y.way.bytes) ≡ true = some_bytes (meet x.way.bytes y.way.bytes) (λ e. true≢false (sym (c.is_empty.ensures.1 (c.meet-bytes.ensures ∙ e)) ∙ c.if-is_empty.false)) in
+    let some : has_some (meet x.way.bytes y.way.bytes) ≡ true =
+    some_bytes (meet x.way.bytes y.way.bytes) (λ e. true≢false (sym (c.is_empty.ensures.1 (c.meet-bytes.ensures ∙ e)) ∙ c.if-is_empty.false)) in
     let one : ways_with x (y ∷ []) ≡ way_pair x y ∷ [] = row_one ways_meet way_pair x y (both_true (nat_eq x.shared y.shared) (has_some (meet x.way.bytes y.way.bytes)) same some) in
     handed_on (λ (e : SizeFault). IsRefusalOf (ways_with x (y ∷ [])) c.args.self.now.found.keys c.args.self.now.ways.items e) c.from_residual.result c.in_err-to.field-0.0 c.from_residual.ensures.1
     (λ n1 n2 w h l le.
@@ -47,7 +48,8 @@ returns-clause-followed c =
     let x = c.args.x.now in
     let y = c.args.y.now in
     let same : nat_eq x.shared y.shared ≡ true = eq-eqb x.shared y.shared (sym c.number.ensures ∙ (c.if-number.false ∙ c.number-2.ensures)) in
-    let some : has_some (meet x.way.bytes y.way.bytes) ≡ true = some_bytes (meet x.way.bytes y.way.bytes) (λ e. true≢false (sym (c.is_empty.ensures.1 (c.meet-bytes.ensures ∙ e)) ∙ c.if-is_empty.false)) in
+    let some : has_some (meet x.way.bytes y.way.bytes) ≡ true =
+    some_bytes (meet x.way.bytes y.way.bytes) (λ e. true≢false (sym (c.is_empty.ensures.1 (c.meet-bytes.ensures ∙ e)) ∙ c.if-is_empty.false)) in
     let one : ways_with x (y ∷ []) ≡ way_pair x y ∷ [] = row_one ways_meet way_pair x y (both_true (nat_eq x.shared y.shared) (has_some (meet x.way.bytes y.way.bytes)) same some) in
     let old = c.args.self.now in
     let keys = c.number_of.new.self.found.keys in

@@ -56,7 +56,8 @@ returns-then-len-gt-MOST_WAYS-clause-fault c =
     subst (λ (r : List PairWay). IsRefusalOf r k w (Ways count)) (sym split)
     (refusal_of_ways (before ++ ways_with x ys) rest k new.found.keys w new.ways.items count
     (followed_then before (ways_with x ys) k c.loop-x.self.found.keys new.found.keys w c.loop-x.self.ways.items new.ways.items c.loop-x.invariant c.in_ok-follow_way.ensures.followed)
-    (omega (arith, c.if-len-gt-MOST_WAYS.true, c.len.ensures, c.len-then-len-gt-MOST_WAYS.ensures)) (let e : count ≡ length new.ways.items = search (rules, c.len-then-len-gt-MOST_WAYS.ensures, new.ways.ok) in e))
+    (omega (arith, c.if-len-gt-MOST_WAYS.true, c.len.ensures, c.len-then-len-gt-MOST_WAYS.ensures)) (let e : count ≡ length new.ways.items =
+    search (rules, c.len-then-len-gt-MOST_WAYS.ensures, new.ways.ok) in e))
 
 pub loop-x-preserved : goal.loop-x-preserved
 loop-x-preserved c =

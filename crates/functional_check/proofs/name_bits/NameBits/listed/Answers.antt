@@ -8,7 +8,8 @@ use Rattle.functional_check.proofs.name_bits.NameBits.listed.Goals as goal
 pub add_one-requires : goal.add_one-requires
 add_one-requires c =
     let names = c.args.names.now in
-    shared_room names (members names c.args.self) c.loop-k.listed c.loop-k.k c.at-name.result.now (omega (arith, c.len-k-end.ensures.few, c.len-k-end.ensures.value)) c.at-name.ensures.value c.loop-k.invariant
+    shared_room names (members names c.args.self) c.loop-k.listed c.loop-k.k c.at-name.result.now
+    (omega (arith, c.len-k-end.ensures.few, c.len-k-end.ensures.value)) c.at-name.ensures.value c.loop-k.invariant
 
 pub loop-k-preserved : goal.loop-k-preserved
 loop-k-preserved c =

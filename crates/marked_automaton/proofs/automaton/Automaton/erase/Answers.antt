@@ -16,7 +16,8 @@ invariant_of-result c =
     let made = erased_graph a.vars c.args.keep.now e.places.items known.ascending known.places B c.self.invariant.0 e.all c.as_slice-2.result.now c.in_ok-ways.field-0.items
     c.as_slice-3.result.now c.in_ok-stops.field-0.items c.in_ok-copy_of.field-0.items c.in_ok-copy_of-2.field-0.items a.idle.items known.all c.as_slice-2.ensures.value c.as_slice-3.ensures.value
     (c.in_ok-copy_of.ensures ∙ c.as_slice.ensures.value) (c.in_ok-copy_of-2.ensures ∙ c.as_slice-4.ensures.value) refl c.in_ok-ways.ensures c.in_ok-stops.ensures in (
-      subst (λ (v : List (List ℕ)). IsMarked (record { names = v; graph = graph_of a.states c.in_ok-copy_of.field-0.items c.in_ok-ways.field-0.items c.in_ok-stops.field-0.items c.in_ok-copy_of-2.field-0.items })) (sym c.copy.ensures)
+      subst (λ (v : List (List ℕ)). IsMarked
+          (record { names = v; graph = graph_of a.states c.in_ok-copy_of.field-0.items c.in_ok-ways.field-0.items c.in_ok-stops.field-0.items c.in_ok-copy_of-2.field-0.items })) (sym c.copy.ensures)
           (subst (λ (G : Automaton). IsMarked (record { names = c.args.keep.now; graph = G })) (sym made)
           (erased_marked a.vars c.args.keep.now e.places.items known.ascending known.places B c.self.invariant.0)),
       ap length (c.in_ok-copy_of-2.ensures ∙ c.as_slice-4.ensures.value) ∙ c.self.invariant.1,

@@ -13,7 +13,8 @@ invariant_of-result c =
     c.in_ok-turned_starts.field-0.items c.resize.new.self.items c.as_slice-3.ensures.value c.as_slice.ensures.value c.as_slice-4.ensures.value
     c.in_ok-end_states.ensures c.in_ok-ways.ensures c.in_ok-turned_starts.ensures
     (resized c.new-idle.result.items c.resize.new.self.items a.states _ c.new-idle.ensures.items c.new-idle.ensures.len c.in_ok-resize.ensures.items) in (
-      subst (λ (v : List (List ℕ)). IsMarked (record { names = v; graph = graph_of a.states c.in_ok-end_states.field-0.items c.in_ok-ways.ways.items c.in_ok-turned_starts.field-0.items c.resize.new.self.items })) (sym c.copy.ensures)
+      subst (λ (v : List (List ℕ)). IsMarked
+          (record { names = v; graph = graph_of a.states c.in_ok-end_states.field-0.items c.in_ok-ways.ways.items c.in_ok-turned_starts.field-0.items c.resize.new.self.items })) (sym c.copy.ensures)
           (subst (λ (G : Automaton). IsMarked (record { names = a.vars; graph = G })) (sym made) (reversed_is_marked _ c.self.invariant.0)),
       omega (arith, c.in_ok-resize.ensures.len),
       subst (λ (xs : List Way). IsTrue c.are_grouped-grouped.result ↔ AreGrouped xs) c.as_slice-2.ensures.value c.are_grouped-grouped.ensures,

@@ -35,7 +35,8 @@ exactly_between c =
 -- what is made is the trimmed automaton
 made_of : (c : In_ok-flags_of_kept) →
     graph_of c.in_ok-kept.kept.count c.in_ok-states.field-0.items c.ways-ways.result.items c.in_ok-stops.field-0.items c.in_ok-flags_of_kept.field-0.items
-    ≡ trimmed (graph_of c.self.inside.states c.self.inside.starts.items c.self.inside.ways.items c.self.inside.stops.items c.self.inside.idle.items) c.in_ok-useful.useful.items c.self.inside.idle.items
+    ≡ trimmed (graph_of c.self.inside.states c.self.inside.starts.items c.self.inside.ways.items c.self.inside.stops.items c.self.inside.idle.items)
+    c.in_ok-useful.useful.items c.self.inside.idle.items
 made_of c =
     let a = c.self.inside in
     let B = graph_of a.states a.starts.items a.ways.items a.stops.items a.idle.items in
@@ -105,7 +106,8 @@ returns-clause-reduct c =
     let made = made_of (goal.at.returns-clause-reduct c).In_ok-flags_of_kept in
     let len = c.in_ok-useful.ensures.len in
     let len_idle = idle_len here in
-    subst (λ (M : Marked). Reduces (graph_of c.in_ok-kept.kept.count c.in_ok-states.field-0.items c.ways-ways.result.items c.in_ok-stops.field-0.items c.in_ok-flags_of_kept.field-0.items) M.graph) c.self.view_is
+    subst (λ (M : Marked). Reduces (graph_of c.in_ok-kept.kept.count c.in_ok-states.field-0.items c.ways-ways.result.items c.in_ok-stops.field-0.items
+    c.in_ok-flags_of_kept.field-0.items) M.graph) c.self.view_is
     (subst (λ G. Reduces G B) (sym made) (
       number_of (numbered 0 useful),
       kept_place (moved_way (numbered 0 useful)) B.ways,

@@ -19,7 +19,11 @@ pub invariant_of-self : goal.invariant_of-self
 invariant_of-self g c = closing_seen _ _ _ _ _ _ (freed g c).closing c.take-node.new.self.spare refl
 
 pub returns-clause-freed : goal.returns-clause-freed
-returns-clause-freed g c = (named_link c.self.inside.newest (link_in c.take-node.result), (freed g c).cells_were ∙ ap (λ cs. named_link c.self.inside.newest (link_in c.take-node.result) ∷ cs) (sym (closing_cells _ _ _ _ _ _ (freed g c).closing)))
+returns-clause-freed g c = (
+  named_link c.self.inside.newest (link_in c.take-node.result),
+  (freed g c).cells_were ∙
+      ap (λ cs. named_link c.self.inside.newest (link_in c.take-node.result) ∷ cs) (sym (closing_cells _ _ _ _ _ _ (freed g c).closing)),
+)
 
 pub returns-clause-heads : goal.returns-clause-heads
 returns-clause-heads g c = λ q h.

@@ -12,13 +12,17 @@ invariant_of-self c =
     record {
       room = omega (arith, s.room, rows, length-set s.entered.items c.place-place.result c.args.entry);
       some =
-          entered_some s.asked.items s.entered.items s.classes.count s.classes.numbers c.args.layer c.args.byte c.args.entry c.place-place.result c.index.result.now c.index-2.result.now c.single.result c.union-asked.result
-          (omega arith) c.place-place.ensures.value c.place-place.ensures.within c.index.ensures (c.is_room_for.ensures c.if-not-is_room_for.false) (sym c.is_entered.ensures ∙ c.if-not-is_entered.false) c.index-2.ensures c.single.ensures c.union-asked.ensures s.some;
+          entered_some s.asked.items s.entered.items s.classes.count s.classes.numbers c.args.layer c.args.byte c.args.entry c.place-place.result
+          c.index.result.now c.index-2.result.now c.single.result c.union-asked.result
+          (omega arith) c.place-place.ensures.value c.place-place.ensures.within c.index.ensures (c.is_room_for.ensures c.if-not-is_room_for.false)
+          (sym c.is_entered.ensures ∙ c.if-not-is_entered.false) c.index-2.ensures c.single.ensures c.union-asked.ensures s.some;
     }
 
 pub returns-clause-entered : goal.returns-clause-entered
 returns-clause-entered c =
     let s = c.args.self.now in
     let asked = s.asked.ok.0 in
-    entered s.asked.items s.entered.items s.classes.count s.classes.numbers c.args.layer c.args.byte c.args.entry c.place-place.result c.index.result.now c.index-2.result.now c.single.result c.union-asked.result
-    (omega arith) c.place-place.ensures.value c.place-place.ensures.within c.index.ensures (c.is_room_for.ensures c.if-not-is_room_for.false) (sym c.is_entered.ensures ∙ c.if-not-is_entered.false) c.index-2.ensures c.single.ensures c.union-asked.ensures s.some
+    entered s.asked.items s.entered.items s.classes.count s.classes.numbers c.args.layer c.args.byte c.args.entry c.place-place.result
+    c.index.result.now c.index-2.result.now c.single.result c.union-asked.result
+    (omega arith) c.place-place.ensures.value c.place-place.ensures.within c.index.ensures (c.is_room_for.ensures c.if-not-is_room_for.false)
+    (sym c.is_entered.ensures ∙ c.if-not-is_entered.false) c.index-2.ensures c.single.ensures c.union-asked.ensures s.some

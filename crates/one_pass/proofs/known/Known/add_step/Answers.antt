@@ -16,4 +16,5 @@ enter-requires-clause-entry c =
     let s = c.args.self.now in
     let place : c.len-place.result ≡ length s.steps = c.len-place.ensures in
     subst (λ xs. IsEntry c.args.table.now s.layers xs c.args.byte (layer_at s.layers c.args.layer) (Run c.len-place.result)) (sym c.in-Ok.ensures.added)
-    (entry_last c.args.table.now s.layers s.steps (known_step_of c.args.program.now c.args.next) c.args.byte (layer_at s.layers c.args.layer) c.len-place.result place c.requires.step.look_ups c.requires.step.next)
+    (entry_last c.args.table.now s.layers s.steps (known_step_of c.args.program.now c.args.next) c.args.byte (layer_at s.layers c.args.layer)
+    c.len-place.result place c.requires.step.look_ups c.requires.step.next)

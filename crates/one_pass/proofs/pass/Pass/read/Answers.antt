@@ -12,7 +12,8 @@ pub loop-i-init : goal.loop-i-init
 loop-i-init g c = record {
   within = omega arith;
   advanced = start_in c.stand-layer.result c.requires.goes_on c.stand-layer.ensures.known c.requires.goes_on.waits c.stand-layer.ensures.stands;
-  stands = stands_in c.args.table.now c.args.self.now.graph c.stand-layer.new.self c.stand-layer.result (sets_distinct c.args.table.now c.args.self.now c.requires.goes_on) c.stand-layer.ensures.stands;
+  stands = stands_in c.args.table.now c.args.self.now.graph c.stand-layer.new.self c.stand-layer.result
+      (sets_distinct c.args.table.now c.args.self.now c.requires.goes_on) c.stand-layer.ensures.stands;
 }
 
 pub read_on-here-requires-clause-goes_on : goal.read_on-here-requires-clause-goes_on
@@ -40,7 +41,8 @@ returns-in-Err-clause-given_up g c =
     let r = c.read_on-here.ensures in
     let past = read_over c.loop-i.layer c.loop-i.self c.read_on-here.new.self i.advanced r.later r.within r.back r.graph r.known r.at r.waits in
     advanced_stops past r.within
-    (subst (λ xs. GivesUp (bytes_at c.read_on-here.new.self.at xs) c.loop-i.table (as_layer c.loop-i.layer c.read_on-here.new.self) c.loop-i.steps c.read_some.new.table c.read_some.new.steps c.in-Err.fault)
+    (subst (λ xs. GivesUp (bytes_at c.read_on-here.new.self.at xs) c.loop-i.table (as_layer c.loop-i.layer c.read_on-here.new.self) c.loop-i.steps
+    c.read_some.new.table c.read_some.new.steps c.in-Err.fault)
     c.split_at.ensures.back c.in-Err.ensures.given_up)
 
 pub loop-i-preserved : goal.loop-i-preserved
@@ -53,7 +55,8 @@ loop-i-preserved g c =
     let same = ap length c.split_at.ensures.back in
     let step : IsAdvanced c.loop-i.table (as_layer c.loop-i.layer c.read_on-here.new.self) c.loop-i.steps (drop c.read_on-here.result c.args.piece.now) c.in-Ok.place.bytes c.read_some.new.table
     (as_layer c.in-Ok.place.layer c.read_some.new.self) c.read_some.new.steps =
-    subst (λ (xs : List ℕ). IsAdvanced c.loop-i.table (as_layer c.loop-i.layer c.read_on-here.new.self) c.loop-i.steps xs c.in-Ok.place.bytes c.read_some.new.table (as_layer c.in-Ok.place.layer c.read_some.new.self) c.read_some.new.steps)
+    subst (λ (xs : List ℕ). IsAdvanced c.loop-i.table (as_layer c.loop-i.layer c.read_on-here.new.self) c.loop-i.steps xs c.in-Ok.place.bytes
+    c.read_some.new.table (as_layer c.in-Ok.place.layer c.read_some.new.self) c.read_some.new.steps)
     c.split_at.ensures.back done.advanced in
     record { within = omega (arith, r.within, done.within, long, same); advanced = advanced_on past r.within step; stands = done.stands }
 
@@ -64,7 +67,8 @@ pub returns-clause-read : goal.returns-clause-read
 returns-clause-read g c =
     let e = c.name.ensures in
     let p = c.args.self.now in
-    subst (λ (q : Pass). PassReads (bytes_at p.at c.args.piece.now) c.args.table.now p c.args.steps.now c.loop-i.table q c.loop-i.steps) (sym (same_pass c.name.new.self (as_layer c.loop-i.layer c.loop-i.self) e.graph e.known e.search e.at))
+    subst (λ (q : Pass). PassReads (bytes_at p.at c.args.piece.now) c.args.table.now p c.args.steps.now c.loop-i.table q c.loop-i.steps)
+    (sym (same_pass c.name.new.self (as_layer c.loop-i.layer c.loop-i.self) e.graph e.known e.search e.at))
     (advanced_all c.loop-i.invariant.advanced (omega (arith, c.loop-i.invariant.within)))
 
 pub returns-clause-at : goal.returns-clause-at

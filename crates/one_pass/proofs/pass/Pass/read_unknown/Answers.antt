@@ -37,4 +37,5 @@ returns-clause-read g c =
 
 pub returns-clause-stands : goal.returns-clause-stands
 returns-clause-stands g c =
-    stands_in c.read_named.new.table c.read_named.new.self.graph c.read_named.new.self.known c.in-Ok.next (sets_distinct c.read_named.new.table c.read_named.new.self c.in-Ok.ensures.read.goes_on) c.in-Ok.ensures.stands
+    stands_in c.read_named.new.table c.read_named.new.self.graph c.read_named.new.self.known c.in-Ok.next
+    (sets_distinct c.read_named.new.table c.read_named.new.self c.in-Ok.ensures.read.goes_on) c.in-Ok.ensures.stands

@@ -30,7 +30,8 @@ invariant_of-result g c =
     let start = ap (λ (x : Graph). x.stepped) c.self.view_is ∙ c.requires in
     let is = c.in_ok-arena.ensures.copied in
     let whole : Graph = graph_of c.self.inside.arena.cells c.self.inside.registers.sources.items c.self.inside.next.pairs c.self.inside.stepped c.self.inside.at in
-    let done = copy_done whole c.self.inside.arena c.in_ok-arena.arena _ _ c.deref.result.now c.in_ok-registers.registers.sources.items is.0 c.self.invariant start refl is.1 c.is_arena.ensures c.in_ok-cells.ensures
+    let done = copy_done whole c.self.inside.arena c.in_ok-arena.arena _ _ c.deref.result.now c.in_ok-registers.registers.sources.items is.0
+    c.self.invariant start refl is.1 c.is_arena.ensures c.in_ok-cells.ensures
     c.deref.ensures.value c.in_ok-registers.ensures in
     rw c.new.ensures done.sound
 
@@ -39,7 +40,8 @@ returns-clause-sources g c =
     let start = ap (λ (x : Graph). x.stepped) c.self.view_is ∙ c.requires in
     let is = c.in_ok-arena.ensures.copied in
     let whole : Graph = graph_of c.self.inside.arena.cells c.self.inside.registers.sources.items c.self.inside.next.pairs c.self.inside.stepped c.self.inside.at in
-    let done = copy_done whole c.self.inside.arena c.in_ok-arena.arena _ _ c.deref.result.now c.in_ok-registers.registers.sources.items is.0 c.self.invariant start refl is.1 c.is_arena.ensures c.in_ok-cells.ensures
+    let done = copy_done whole c.self.inside.arena c.in_ok-arena.arena _ _ c.deref.result.now c.in_ok-registers.registers.sources.items is.0
+    c.self.invariant start refl is.1 c.is_arena.ensures c.in_ok-cells.ensures
     c.deref.ensures.value c.in_ok-registers.ensures in
     done.sources_same ∙ (ap (λ n. map (source_of whole.cells) (drop n whole.layer)) (sym start) ∙ ap sources c.self.view_is)
 
@@ -48,7 +50,8 @@ returns-clause-cells g c =
     let start = ap (λ (x : Graph). x.stepped) c.self.view_is ∙ c.requires in
     let is = c.in_ok-arena.ensures.copied in
     let whole : Graph = graph_of c.self.inside.arena.cells c.self.inside.registers.sources.items c.self.inside.next.pairs c.self.inside.stepped c.self.inside.at in
-    let done = copy_done whole c.self.inside.arena c.in_ok-arena.arena _ _ c.deref.result.now c.in_ok-registers.registers.sources.items is.0 c.self.invariant start refl is.1 c.is_arena.ensures c.in_ok-cells.ensures
+    let done = copy_done whole c.self.inside.arena c.in_ok-arena.arena _ _ c.deref.result.now c.in_ok-registers.registers.sources.items is.0
+    c.self.invariant start refl is.1 c.is_arena.ensures c.in_ok-cells.ensures
     c.deref.ensures.value c.in_ok-registers.ensures in
     done.many ∙ ap (λ (x : Graph). length x.cells) c.self.view_is
 

@@ -16,7 +16,8 @@ run_planned-requires g c =
       may = rw (c.pool-pool.ensures.programs, c.reserve.ensures.cells, c.reserve-2.ensures.sources) may;
       sound =
           rw (c.reserve.ensures.cells, c.reserve.ensures.holds, c.reserve-2.ensures.sources)
-          (layer_begun c.self.inside.arena.cells c.self.inside.registers.sources.items c.self.inside.next.pairs c.self.inside.stepped c.self.inside.at c.self.inside.arena.holds c.self.invariant begun);
+          (layer_begun c.self.inside.arena.cells c.self.inside.registers.sources.items c.self.inside.next.pairs c.self.inside.stepped c.self.inside.at
+          c.self.inside.arena.holds c.self.invariant begun);
       spare = omega (arith, c.in_ok-room.ensures, c.in_ok-reserve.ensures.room);
       room = omega (arith, c.in_ok-room.ensures, c.in_ok-reserve-2.ensures.room);
     }

@@ -13,7 +13,8 @@ loop-end-init c = (from_none Same (Has c.args.self.now.ends.items), prefix_same 
 
 pub loop-end-preserved : goal.loop-end-preserved
 loop-end-preserved c = (
-  from_more Same (Has c.args.self.now.ends.items) (Has c.loop-end.self.ends.items) (Has c.add.new.self.ends.items) c.args.ends.now c.loop-end.end-index (get_or c.args.ends.now c.loop-end.end-index 0) 0
+  from_more Same (Has c.args.self.now.ends.items) (Has c.loop-end.self.ends.items) (Has c.add.new.self.ends.items) c.args.ends.now
+      c.loop-end.end-index (get_or c.args.ends.now c.loop-end.end-index 0) 0
       c.loop-end-test.true refl c.loop-end.invariant.0 c.in_ok-add.ensures.all,
   prefix_then c.args.self.now.ends.items c.loop-end.self.ends.items c.add.new.self.ends.items c.loop-end.invariant.1 c.in_ok-add.ensures.grown,
 )

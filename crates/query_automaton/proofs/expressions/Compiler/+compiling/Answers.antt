@@ -315,7 +315,8 @@ union-loop-k-init t c =
       begun = omega arith;
       same = c.in_ok-all.ensures.same;
       so_far = so_far_first (query_of b.query) b.lets c.requires.known Union (exprs_of c.args.parts.now) (expr_of c.at.result.now) c.in_ok-all.all c.at.ensures c.in_ok-all.ensures.made;
-      steps = first_takes (query_of b.query) b.lets c.requires.known Union (exprs_of c.args.parts.now) (expr_of c.at.result.now) c.at.ensures c.args.effort.now c.expression.new.effort c.in_ok-all.ensures.steps _ _ c.in_ok-spend.ensures.steps
+      steps = first_takes (query_of b.query) b.lets c.requires.known Union (exprs_of c.args.parts.now) (expr_of c.at.result.now) c.at.ensures
+          c.args.effort.now c.expression.new.effort c.in_ok-all.ensures.steps _ _ c.in_ok-spend.ensures.steps
           (first_cost (query_of b.query) b.lets c.requires.known Union (exprs_of c.args.parts.now) (expr_of c.at.result.now) c.at.ensures c.as_automaton.result.now
           (subst (IsCompiledIn b (expr_of c.at.result.now)) (sym c.as_automaton.ensures) c.in_ok-all.ensures.made) c.in_ok-spend.ensures.marked);
     }
@@ -364,7 +365,8 @@ union-returns-in_err-all-2-clause-fault t c =
     let fault = c.in_err-all-2.field-0.0 in
     let takes = subst (λ (d : BegunQuery). TakesIn d y c.loop-k.effort c.beside.new.effort) c.loop-k.invariant.same c.in_ok-part.ensures.steps in
     handed_on (HasCauseIn b E (union_all es)) c.from_residual-in_err-all-2.result fault c.from_residual-in_err-all-2.ensures.1
-    (two_fault q b.lets c.requires.known Union es c.requires.asked k c.loop-k.invariant.begun y c.at-in-loop-k.ensures c.loop-k.all c.as_automaton-in-loop-k.result.now c.loop-k.invariant.so_far part c.in_err-all-2.ensures.marked E c.loop-k.effort c.beside.new.effort c.loop-k.invariant.steps takes b.held fault
+    (two_fault q b.lets c.requires.known Union es c.requires.asked k c.loop-k.invariant.begun y c.at-in-loop-k.ensures c.loop-k.all
+    c.as_automaton-in-loop-k.result.now c.loop-k.invariant.so_far part c.in_err-all-2.ensures.marked E c.loop-k.effort c.beside.new.effort c.loop-k.invariant.steps takes b.held fault
     c.in_err-all-2.ensures.fault)
 
 pub union-loop-k-preserved : goal.union-loop-k-preserved
@@ -380,9 +382,12 @@ union-loop-k-preserved t c =
     record {
       begun = omega arith;
       same = c.in_ok-all-2.ensures.same ∙ (c.in_ok-part.ensures.same ∙ c.loop-k.invariant.same);
-      so_far = so_far_next q b.lets c.requires.known Union es c.requires.asked k c.loop-k.invariant.begun y c.at-in-loop-k.ensures c.loop-k.all c.as_automaton-in-loop-k.result.now c.loop-k.invariant.so_far part
+      so_far = so_far_next q b.lets c.requires.known Union es c.requires.asked k c.loop-k.invariant.begun y c.at-in-loop-k.ensures c.loop-k.all
+          c.as_automaton-in-loop-k.result.now c.loop-k.invariant.so_far part
           c.in_ok-all-2.ensures.marked c.in_ok-all-2.all c.in_ok-all-2.ensures.made;
-      steps = next_takes q b.lets c.requires.known Union es c.requires.asked k c.loop-k.invariant.begun y c.at-in-loop-k.ensures c.loop-k.all c.as_automaton-in-loop-k.result.now c.loop-k.invariant.so_far part c.in_ok-all-2.ensures.marked c.args.effort.now c.loop-k.effort c.beside.new.effort c.loop-k.invariant.steps takes _ c.in_ok-all-2.ensures.steps;
+      steps = next_takes q b.lets c.requires.known Union es c.requires.asked k c.loop-k.invariant.begun y c.at-in-loop-k.ensures c.loop-k.all
+          c.as_automaton-in-loop-k.result.now c.loop-k.invariant.so_far part c.in_ok-all-2.ensures.marked c.args.effort.now c.loop-k.effort
+          c.beside.new.effort c.loop-k.invariant.steps takes _ c.in_ok-all-2.ensures.steps;
     }
 
 pub union-returns-clause-made : goal.union-returns-clause-made
@@ -420,7 +425,8 @@ join-loop-k-init t c =
       begun = omega arith;
       same = c.in_ok-all.ensures.same;
       so_far = so_far_first (query_of b.query) b.lets c.requires.known Join (exprs_of c.args.parts.now) (expr_of c.at.result.now) c.in_ok-all.all c.at.ensures c.in_ok-all.ensures.made;
-      steps = first_takes (query_of b.query) b.lets c.requires.known Join (exprs_of c.args.parts.now) (expr_of c.at.result.now) c.at.ensures c.args.effort.now c.expression.new.effort c.in_ok-all.ensures.steps _ 0 (omega arith)
+      steps = first_takes (query_of b.query) b.lets c.requires.known Join (exprs_of c.args.parts.now) (expr_of c.at.result.now) c.at.ensures
+          c.args.effort.now c.expression.new.effort c.in_ok-all.ensures.steps _ 0 (omega arith)
           (λ most within. omega arith);
     }
 
@@ -453,7 +459,8 @@ join-joined-requires t c =
     let y = expr_of c.at-in-loop-k.result.now in
     let made = subst (λ (d : BegunQuery). IsCompiledIn d y c.in_ok-part.part) c.loop-k.invariant.same c.in_ok-part.ensures.made in
     let part = subst (IsCompiledIn b y) (sym c.as_automaton-in-loop-k.ensures) made in
-    combine q b.lets c.requires.known Join es c.requires.asked k c.loop-k.invariant.begun y c.at-in-loop-k.ensures c.as_automaton.result.now c.as_automaton-in-loop-k.result.now (subst (SoFar q (length b.lets) Join es k) (sym c.as_automaton.ensures) c.loop-k.invariant.so_far) part
+    combine q b.lets c.requires.known Join es c.requires.asked k c.loop-k.invariant.begun y c.at-in-loop-k.ensures c.as_automaton.result.now
+    c.as_automaton-in-loop-k.result.now (subst (SoFar q (length b.lets) Join es k) (sym c.as_automaton.ensures) c.loop-k.invariant.so_far) part
 
 pub join-returns-in_err-all-2-clause-fault : goal.join-returns-in_err-all-2-clause-fault
 join-returns-in_err-all-2-clause-fault t c =
@@ -468,7 +475,9 @@ join-returns-in_err-all-2-clause-fault t c =
     let fault = c.in_err-all-2.field-0.0 in
     let takes = subst (λ (d : BegunQuery). TakesIn d y c.loop-k.effort c.beside.new.effort) c.loop-k.invariant.same c.in_ok-part.ensures.steps in
     handed_on (HasCauseIn b E (join_all es)) c.from_residual-in_err-all-2.result fault c.from_residual-in_err-all-2.ensures.1
-    (two_fault q b.lets c.requires.known Join es c.requires.asked k c.loop-k.invariant.begun y c.at-in-loop-k.ensures c.as_automaton.result.now c.as_automaton-in-loop-k.result.now (subst (SoFar q (length b.lets) Join es k) (sym c.as_automaton.ensures) c.loop-k.invariant.so_far) part c.in_err-all-2.ensures.marked E c.loop-k.effort c.beside.new.effort c.loop-k.invariant.steps takes b.held fault
+    (two_fault q b.lets c.requires.known Join es c.requires.asked k c.loop-k.invariant.begun y c.at-in-loop-k.ensures c.as_automaton.result.now
+    c.as_automaton-in-loop-k.result.now (subst (SoFar q (length b.lets) Join es k) (sym c.as_automaton.ensures) c.loop-k.invariant.so_far) part
+    c.in_err-all-2.ensures.marked E c.loop-k.effort c.beside.new.effort c.loop-k.invariant.steps takes b.held fault
     c.in_err-all-2.ensures.fault)
 
 pub join-loop-k-preserved : goal.join-loop-k-preserved
@@ -484,9 +493,13 @@ join-loop-k-preserved t c =
     record {
       begun = omega arith;
       same = c.in_ok-all-2.ensures.same ∙ (c.in_ok-part.ensures.same ∙ c.loop-k.invariant.same);
-      so_far = so_far_next q b.lets c.requires.known Join es c.requires.asked k c.loop-k.invariant.begun y c.at-in-loop-k.ensures c.as_automaton.result.now c.as_automaton-in-loop-k.result.now (subst (SoFar q (length b.lets) Join es k) (sym c.as_automaton.ensures) c.loop-k.invariant.so_far) part
+      so_far = so_far_next q b.lets c.requires.known Join es c.requires.asked k c.loop-k.invariant.begun y c.at-in-loop-k.ensures
+          c.as_automaton.result.now c.as_automaton-in-loop-k.result.now (subst (SoFar q (length b.lets) Join es k) (sym c.as_automaton.ensures) c.loop-k.invariant.so_far) part
           c.in_ok-all-2.ensures.marked c.in_ok-all-2.all c.in_ok-all-2.ensures.made;
-      steps = next_takes q b.lets c.requires.known Join es c.requires.asked k c.loop-k.invariant.begun y c.at-in-loop-k.ensures c.as_automaton.result.now c.as_automaton-in-loop-k.result.now (subst (SoFar q (length b.lets) Join es k) (sym c.as_automaton.ensures) c.loop-k.invariant.so_far) part c.in_ok-all-2.ensures.marked c.args.effort.now c.loop-k.effort c.beside.new.effort c.loop-k.invariant.steps takes _ c.in_ok-all-2.ensures.steps;
+      steps = next_takes q b.lets c.requires.known Join es c.requires.asked k c.loop-k.invariant.begun y c.at-in-loop-k.ensures
+          c.as_automaton.result.now c.as_automaton-in-loop-k.result.now
+          (subst (SoFar q (length b.lets) Join es k) (sym c.as_automaton.ensures) c.loop-k.invariant.so_far) part c.in_ok-all-2.ensures.marked
+          c.args.effort.now c.loop-k.effort c.beside.new.effort c.loop-k.invariant.steps takes _ c.in_ok-all-2.ensures.steps;
     }
 
 pub join-returns-clause-made : goal.join-returns-clause-made

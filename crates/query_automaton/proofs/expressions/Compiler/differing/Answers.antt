@@ -25,7 +25,8 @@ returns-in_err-alone-clause-fault c =
     let a = c.args.left.now in
     let p = c.args.right.now in
     let fault = c.in_err-alone.field-0.0 in
-    let le : c.args.effort.now ≤ c.spend.new.self + (a.graph.states + p.graph.states) = omega (arith, c.spend.ensures, c.states.ensures.value, c.from.ensures, c.states-2.ensures.value, c.from-2.ensures) in
+    let le : c.args.effort.now ≤ c.spend.new.self + (a.graph.states + p.graph.states) =
+    omega (arith, c.spend.ensures, c.states.ensures.value, c.from.ensures, c.states-2.ensures.value, c.from-2.ensures) in
     handed_on (IsTold (IsSizeFaultWithin (of_minus a p).graph.states (length (of_minus a p).graph.ways)) 0 c.args.effort.now (minus_steps a p)) c.from_residual.result (minus_fault fault)
     c.from_residual.ensures.1 (minus_refused a p c.args.effort.now c.spend.new.self le fault c.in_err-alone.ensures.within c.in_err-alone.ensures.fault)
 

@@ -24,7 +24,8 @@ pub returns-in_err-both-clause-fault : goal.returns-in_err-both-clause-fault
 returns-in_err-both-clause-fault c =
     let p = c.args.part.now in
     let fault = c.in_err-both.field-0.0 in
-    handed_on (IsTold (AreTooLarge Union c.args.all p) (length (of_union c.args.all p).graph.stops) c.args.effort.now (union_steps c.args.all p)) c.from_residual-in_err-both.result (Size fault) c.from_residual-in_err-both.ensures.1
+    handed_on (IsTold (AreTooLarge Union c.args.all p) (length (of_union c.args.all p).graph.stops) c.args.effort.now (union_steps c.args.all p))
+    c.from_residual-in_err-both.result (Size fault) c.from_residual-in_err-both.ensures.1
     (subst (λ (a : Marked). AreTooLarge Union a p fault) c.in_ok-take.ensures (union_too_large c.in_ok-take.field-0 p fault c.in_err-both.ensures.fault))
 
 pub returns-in_err-spend-2-clause-fault : goal.returns-in_err-spend-2-clause-fault
@@ -35,7 +36,8 @@ returns-in_err-spend-2-clause-fault c =
     let fault = c.in_err-spend-2.field-0.0 in
     let few = united_size a p c.in_ok-take.field-0 both c.in_ok-take.ensures c.in_ok-both.ensures.names c.in_ok-both.ensures.reduct c.in_err-spend-2.ensures.marked in
     let le : c.args.effort.now ≤ union_steps a p = omega (arith, c.in_ok-spend.ensures.steps, c.in_err-spend-2.ensures.spent, few) in
-    handed_on (IsTold (AreTooLarge Union a p) (length (of_union a p).graph.stops) c.args.effort.now (union_steps a p)) c.from_residual-in_err-spend-2.result fault c.from_residual-in_err-spend-2.ensures.1
+    handed_on (IsTold (AreTooLarge Union a p) (length (of_union a p).graph.stops) c.args.effort.now (union_steps a p))
+    c.from_residual-in_err-spend-2.result fault c.from_residual-in_err-spend-2.ensures.1
     (told_spent (AreTooLarge Union a p) (length (of_union a p).graph.stops) c.args.effort.now (union_steps a p) le fault c.in_err-spend-2.ensures.fault)
 
 pub returns-clause-steps : goal.returns-clause-steps

@@ -19,4 +19,5 @@ returns-in-Err-clause-part g c =
     let whole = take c.self.inside.bytes.len (buffer ++ drop (length buffer) c.self.inside.bytes.items) in
     let long : length buffer ≡ c.self.inside.bytes.len = omega arith in
     let back : whole ≡ buffer = take_at buffer (drop (length buffer) c.self.inside.bytes.items) c.self.inside.bytes.len long in
-    subst (λ (xs : List ℕ). AddsPart (change (g.O.Sink.told c.args.out.now) (g.O.Sink.told c.put_before.new.out)) (xs ++ line)) (ap (take end) back ∙ front) (part_more _ _ (take end whole) line c.in-Err.ensures.part)
+    subst (λ (xs : List ℕ). AddsPart (change (g.O.Sink.told c.args.out.now) (g.O.Sink.told c.put_before.new.out)) (xs ++ line)) (ap (take end) back ∙
+    front) (part_more _ _ (take end whole) line c.in-Err.ensures.part)

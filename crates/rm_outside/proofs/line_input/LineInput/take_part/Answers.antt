@@ -4,8 +4,11 @@ use Rattle.rm_outside.proofs.line_input.LineInput.take_part.Goals as goal
 
 pub returns-then-length-limit-clause-fault : goal.returns-then-length-limit-clause-fault
 returns-then-length-limit-clause-fault g c =
-    let s = c.args.self.now in
-    (omega arith, begins_long s.start s.end (c.args.limit - c.args.seen) s.buffer.items c.deref.result.now (g.R.Reads.told s.from).bytes c.line_length-length.result c.deref.ensures.value c.line_length-length.ensures.value c.if-length-limit.true)
+    let s = c.args.self.now in (
+      omega arith,
+      begins_long s.start s.end (c.args.limit - c.args.seen) s.buffer.items c.deref.result.now (g.R.Reads.told s.from).bytes
+          c.line_length-length.result c.deref.ensures.value c.line_length-length.ensures.value c.if-length-limit.true,
+    )
 
 pub returns-then-at-self-clause-part : goal.returns-then-at-self-clause-part
 returns-then-at-self-clause-part g c =

@@ -11,5 +11,11 @@ returns-clause-part c =
     (search rules)
 
 pub returns-clause-succeeds : goal.returns-clause-succeeds
-returns-clause-succeeds c =
-    (λ e. absurd (false≢true e), λ both. elim c.else-is_none.branch [ else-is_none-via-then-is_none+else-bytes-room w ↦ absurd (search rules) | else-is_none-via-else-is_none w ↦ absurd (search rules) ])
+returns-clause-succeeds c = (
+  λ e. absurd (false≢true e),
+  λ both. elim c.else-is_none.branch [
+    | else-is_none-via-then-is_none+else-bytes-room w ↦
+        absurd (search rules)
+    | else-is_none-via-else-is_none w ↦ absurd (search rules)
+  ],
+)

@@ -33,7 +33,8 @@ returns-clause-text c =
     let front = take f.first f.bytes in
     let same : f.span.start ≡ c.args.span.start = ap (λ (k : Field). k.span.start) c.self.view_is ∙ sym c.requires.start in
     let half : take (c.args.at + f.middle) c.put_bytes-whole.new.buffer ≡ before ++ (front ++ start) =
-    front_written c.args.at f.middle c.put_bytes-whole.result c.args.buffer.now c.put_bytes-whole.new.buffer f.bytes (front ++ start) (omega arith) (omega arith) c.put_bytes-whole.ensures.text i.half in
+    front_written c.args.at f.middle c.put_bytes-whole.result c.args.buffer.now c.put_bytes-whole.new.buffer f.bytes (front ++ start) (omega arith)
+    (omega arith) c.put_bytes-whole.ensures.text i.half in
     c.put_number.ensures.text
     ∙ ap (λ (xs : List ℕ). xs ++ end) half
     ∙ append_assoc before (front ++ start) end

@@ -10,7 +10,8 @@ invariant_of-self-2 c =
     let n = c.args.runs in
     let l : length (spread i.runs.items i.numbers.items) ≤ 16 * n = subst (λ (v : List ℕ). length v ≤ 16 * n) (sym c.self.view_is) c.requires in
     let few : length i.runs.items ≤ n = omega (arith, l, spread_length i.runs.items i.numbers.items (are_within i.runs.items i.numbers.items c.self.invariant)) in
-    subst (λ (v : List ℕ). IsSpread v i.numbers.items) (sym (grown_items i.runs.items c.resize.new.self.items n _ i.runs.ok.0 few c.in_ok-resize.ensures.items)) (grown_spread i.runs.items i.numbers.items n c.self.invariant)
+    subst (λ (v : List ℕ). IsSpread v i.numbers.items)
+    (sym (grown_items i.runs.items c.resize.new.self.items n _ i.runs.ok.0 few c.in_ok-resize.ensures.items)) (grown_spread i.runs.items i.numbers.items n c.self.invariant)
 
 pub returns-clause-grown : goal.returns-clause-grown
 returns-clause-grown c =

@@ -15,7 +15,8 @@ pub put_edges-requires-clause-few_codes : goal.put_edges-requires-clause-few_cod
 put_edges-requires-clause-few_codes c =
     let M = c.args.automaton.now in
     let S = set_at c.args.self.now.sets c.args.set in
-    let codes : c.as_slice.result.now ≡ set_of (map code_of (ways_taken M.graph S c.args.byte)) = c.as_slice.ensures.value ∙ (c.in_ok-put_codes.ensures.codes ∙ (λ i. set_of (map code_of (ways_taken M.graph (c.at.ensures i) c.args.byte)))) in
+    let codes : c.as_slice.result.now ≡ set_of (map code_of (ways_taken M.graph S c.args.byte)) = c.as_slice.ensures.value ∙
+    (c.in_ok-put_codes.ensures.codes ∙ (λ i. set_of (map code_of (ways_taken M.graph (c.at.ensures i) c.args.byte)))) in
     subst (λ (xs : List ℕ). length xs ≤ 2000000) (sym codes) (codes_few M S c.args.byte c.requires.marked)
 
 pub returns-clause-added : goal.returns-clause-added
@@ -23,6 +24,7 @@ returns-clause-added c =
     let M = c.args.automaton.now in
     let s = c.args.self.now in
     let S = set_at s.sets c.args.set in
-    let codes : c.as_slice.result.now ≡ set_of (map code_of (ways_taken M.graph S c.args.byte)) = c.as_slice.ensures.value ∙ (c.in_ok-put_codes.ensures.codes ∙ (λ i. set_of (map code_of (ways_taken M.graph (c.at.ensures i) c.args.byte)))) in
+    let codes : c.as_slice.result.now ≡ set_of (map code_of (ways_taken M.graph S c.args.byte)) = c.as_slice.ensures.value ∙
+    (c.in_ok-put_codes.ensures.codes ∙ (λ i. set_of (map code_of (ways_taken M.graph (c.at.ensures i) c.args.byte)))) in
     adds_edges M.graph s _ _ (cut c.as_slice.result.now) c.in_ok-added.added c.in_ok-added.ensures.put refl
     (ap cut codes ∙ edges_cut M S c.args.byte c.requires.marked c.requires.names) refl refl refl (search rules) (search rules)

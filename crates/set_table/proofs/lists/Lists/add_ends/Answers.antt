@@ -16,5 +16,6 @@ returns-clause-added c =
     let M = c.args.automaton.now in
     let s = c.args.self.now in
     let S = set_at s.sets c.args.set in
-    let codes : c.as_slice.result.now ≡ set_of (marks_among S M.graph.stops) = c.as_slice.ensures.value ∙ (c.in_ok-put_marks.ensures ∙ (λ i. set_of (marks_among (c.at.ensures i) (c.stops.ensures i)))) in
+    let codes : c.as_slice.result.now ≡ set_of (marks_among S M.graph.stops) = c.as_slice.ensures.value ∙
+    (c.in_ok-put_marks.ensures ∙ (λ i. set_of (marks_among (c.at.ensures i) (c.stops.ensures i)))) in
     adds_ends M s _ c.args.set _ _ c.as_slice.result.now c.requires.marked c.requires.names refl refl codes c.in_ok-put_ends.ensures.put (search rules) (search rules) (search rules)

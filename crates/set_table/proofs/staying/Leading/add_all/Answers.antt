@@ -9,7 +9,8 @@ loop-way-preserved c =
     let ways = c.args.ways.now in
     let i = c.loop-way.way-index in (
       c.add.ensures.count,
-      λ before g. gathered_more c.args.members.now ways before i c.way-item.result _ c.loop-way-test.true c.way-item.is (c.add.ensures.gathered (before ++ take i ways) (c.loop-way.invariant.1 before g)),
+      λ before g. gathered_more c.args.members.now ways before i c.way-item.result _ c.loop-way-test.true c.way-item.is
+          (c.add.ensures.gathered (before ++ take i ways) (c.loop-way.invariant.1 before g)),
     )
 
 pub returns-clause-gathered : goal.returns-clause-gathered

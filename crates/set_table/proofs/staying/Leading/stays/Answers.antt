@@ -10,5 +10,6 @@ loop-bytes-preserved c =
 
 pub returns : goal.returns
 returns c =
-    let all : c.loop-bytes.bytes-index ≡ length c.args.self.now.to_members.items = omega (arith, c.loop-bytes-test.false, c.loop-bytes.auto.bytes-index-end, ap length c.as_slice-bytes-items.ensures.value) in
+    let all : c.loop-bytes.bytes-index ≡ length c.args.self.now.to_members.items =
+    omega (arith, c.loop-bytes-test.false, c.loop-bytes.auto.bytes-index-end, ap length c.as_slice-bytes-items.ensures.value) in
     met_told c.args.self.now c.loop-bytes.bytes-index c.loop-bytes.stays c.without.result c.requires all c.loop-bytes.invariant c.without.ensures

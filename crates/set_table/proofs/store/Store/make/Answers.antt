@@ -66,10 +66,14 @@ returns-clause-sound c =
     let longer : IsLongerBy s.lists.sets n.sets = c.in_ok-added.ensures.longer.sets in
     let old : AreStays (tabled M.graph c.args.limit s) s.stays.items = sound.stays in
     let count : length c.put_empty.new.stays.items ≡ length n.sets = omega (arith, c.in_ok-put_empty.ensures.count, c.len.ensures.value) in
-    let more : AreStays (record { graph = M.graph; limit = c.args.limit; sets = n.sets; look_ups = look_ups_of n.sets (s.answers.items ++ x ∷ []) }) (set k.stays.items c.args.set c.in_ok-stays.stays) =
-    stays_more M.graph c.args.limit s.lists.sets n.sets s.answers.items n.edges.items n.ends.items (set (with_places (272 * length n.sets) s.numbers) (place_in c.args.set c.args.question) (1 + length s.answers.items)) w x
-    longer held (λ y h. (sound.held.answered y h).set) (omega (arith, c.requires.set, ap length longer.1, length-append s.lists.sets longer.0)) s.stays.items c.put_empty.new.stays.items (set k.stays.items c.args.set c.in_ok-stays.stays) c.in_ok-stays.stays
-    old c.in_ok-put_empty.ensures.same count c.in_ok-stays.ensures (ap (λ zs. set zs c.args.set c.in_ok-stays.stays) c.in_ok-keep.ensures.stays) (length-set k.stays.items c.args.set c.in_ok-stays.stays ∙ ap length c.in_ok-keep.ensures.stays) in
+    let more : AreStays (record { graph = M.graph; limit = c.args.limit; sets = n.sets; look_ups = look_ups_of n.sets (s.answers.items ++ x ∷ []) })
+    (set k.stays.items c.args.set c.in_ok-stays.stays) =
+    stays_more M.graph c.args.limit s.lists.sets n.sets s.answers.items n.edges.items n.ends.items
+    (set (with_places (272 * length n.sets) s.numbers) (place_in c.args.set c.args.question) (1 + length s.answers.items)) w x
+    longer held (λ y h. (sound.held.answered y h).set) (omega (arith, c.requires.set, ap length longer.1, length-append s.lists.sets longer.0))
+    s.stays.items c.put_empty.new.stays.items (set k.stays.items c.args.set c.in_ok-stays.stays) c.in_ok-stays.stays
+    old c.in_ok-put_empty.ensures.same count c.in_ok-stays.ensures (ap (λ zs. set zs c.args.set c.in_ok-stays.stays) c.in_ok-keep.ensures.stays)
+    (length-set k.stays.items c.args.set c.in_ok-stays.stays ∙ ap length c.in_ok-keep.ensures.stays) in
     record {
       marked = sound.marked;
       names = sound.names;
@@ -84,7 +88,8 @@ returns-clause-sound c =
     }
 
 pub noted-requires-clause-order : goal.noted-requires-clause-order
-noted-requires-clause-order c = still_in_order c.args.automaton.now.graph c.args.self.now.lists.sets c.add.new.self.sets c.args.set c.requires.sound.held.states c.in_ok-added.ensures.longer.sets c.requires.set
+noted-requires-clause-order c = still_in_order c.args.automaton.now.graph c.args.self.now.lists.sets c.add.new.self.sets c.args.set
+    c.requires.sound.held.states c.in_ok-added.ensures.longer.sets c.requires.set
 
 pub returns-in_err-put_empty-clause-numbers : goal.returns-in_err-put_empty-clause-numbers
 returns-in_err-put_empty-clause-numbers c = longer_by_none c.from_residual-in_err-put_empty.result c.args.self.now.numbers

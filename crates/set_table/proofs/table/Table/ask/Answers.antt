@@ -19,7 +19,8 @@ returns-then-number-ne0-clause-number c =
     let read : get_or s.numbers (place_in k q) 0 ≡ c.at-number.result = sym (c.at-number.ensures ∙ ap (λ p. get_or s.numbers p 0) c.place_of.ensures) in
     let found : slice_get c.args.self.now.look_ups (c.at-number.result - 1) ≡ Some (look_up c.args.self.now k (question_of q)) =
     subst (λ (t : Tabled). slice_get t.look_ups (c.at-number.result - 1) ≡ Some (look_up t k (question_of q))) c.self.view_is
-    (number_found i.automaton.now.graph s.lists.sets s.answers.items s.lists.edges.items s.lists.ends.items s.numbers i.weight k q c.at-number.result held within c.requires.question read c.if-number-ne0.true) in
+    (number_found i.automaton.now.graph s.lists.sets s.answers.items s.lists.edges.items s.lists.ends.items s.numbers i.weight k q c.at-number.result
+    held within c.requires.question read c.if-number-ne0.true) in
     found
 
 pub returns-then-number-ne0-clause-asked : goal.returns-then-number-ne0-clause-asked
@@ -33,7 +34,8 @@ returns-then-number-ne0-clause-asked c =
     let read : get_or s.numbers (place_in k q) 0 ≡ c.at-number.result = sym (c.at-number.ensures ∙ ap (λ p. get_or s.numbers p 0) c.place_of.ensures) in
     let found : slice_get c.args.self.now.look_ups (c.at-number.result - 1) ≡ Some (look_up c.args.self.now k (question_of q)) =
     subst (λ (t : Tabled). slice_get t.look_ups (c.at-number.result - 1) ≡ Some (look_up t k (question_of q))) c.self.view_is
-    (number_found i.automaton.now.graph s.lists.sets s.answers.items s.lists.edges.items s.lists.ends.items s.numbers i.weight k q c.at-number.result held within c.requires.question read c.if-number-ne0.true) in
+    (number_found i.automaton.now.graph s.lists.sets s.answers.items s.lists.edges.items s.lists.ends.items s.numbers i.weight k q c.at-number.result
+    held within c.requires.question read c.if-number-ne0.true) in
     once_is_same c.args.self.now (look_up c.args.self.now k (question_of q)) (Has-slice_get c.args.self.now.look_ups (c.at-number.result - 1) (look_up c.args.self.now k (question_of q)) found)
 
 pub answer-requires-clause-absent : goal.answer-requires-clause-absent
@@ -46,7 +48,8 @@ answer-requires-clause-absent c =
     let within : k < length s.lists.sets = subst (λ (t : Tabled). k < length t.sets) (sym c.self.view_is) c.requires.set in
     let read : get_or s.numbers (place_in k q) 0 ≡ c.at-number.result = sym (c.at-number.ensures ∙ ap (λ p. get_or s.numbers p 0) c.place_of.ensures) in
     let absent : Has c.args.self.now.look_ups (look_up c.args.self.now k (question_of q)) → ⊥ = λ h.
-    number_absent i.automaton.now.graph s.lists.sets s.answers.items s.lists.edges.items s.lists.ends.items s.numbers i.weight k q held within (read ∙ c.if-number-ne0.false) (subst (λ (t : Tabled). Has t.look_ups (look_up t k (question_of q))) (sym c.self.view_is) h) in
+    number_absent i.automaton.now.graph s.lists.sets s.answers.items s.lists.edges.items s.lists.ends.items s.numbers i.weight k q held within
+    (read ∙ c.if-number-ne0.false) (subst (λ (t : Tabled). Has t.look_ups (look_up t k (question_of q))) (sym c.self.view_is) h) in
     absent
 
 pub returns-clause-asked : goal.returns-clause-asked
@@ -59,7 +62,8 @@ returns-clause-asked c =
     let within : k < length s.lists.sets = subst (λ (t : Tabled). k < length t.sets) (sym c.self.view_is) c.requires.set in
     let read : get_or s.numbers (place_in k q) 0 ≡ c.at-number.result = sym (c.at-number.ensures ∙ ap (λ p. get_or s.numbers p 0) c.place_of.ensures) in
     let absent : Has c.args.self.now.look_ups (look_up c.args.self.now k (question_of q)) → ⊥ = λ h.
-    number_absent i.automaton.now.graph s.lists.sets s.answers.items s.lists.edges.items s.lists.ends.items s.numbers i.weight k q held within (read ∙ c.if-number-ne0.false) (subst (λ (t : Tabled). Has t.look_ups (look_up t k (question_of q))) (sym c.self.view_is) h) in
+    number_absent i.automaton.now.graph s.lists.sets s.answers.items s.lists.edges.items s.lists.ends.items s.numbers i.weight k q held within
+    (read ∙ c.if-number-ne0.false) (subst (λ (t : Tabled). Has t.look_ups (look_up t k (question_of q))) (sym c.self.view_is) h) in
     subst (λ (t : Tabled). OnOk c.answer.result (c.answer.new.self ≡ t)) (sym (once_is_first c.args.self.now (look_up c.args.self.now k (question_of q)) absent)) c.answer.ensures.asked
 
 pub returns-clause-refused : goal.returns-clause-refused
@@ -72,5 +76,6 @@ returns-clause-refused c =
     let within : k < length s.lists.sets = subst (λ (t : Tabled). k < length t.sets) (sym c.self.view_is) c.requires.set in
     let read : get_or s.numbers (place_in k q) 0 ≡ c.at-number.result = sym (c.at-number.ensures ∙ ap (λ p. get_or s.numbers p 0) c.place_of.ensures) in
     let absent : Has c.args.self.now.look_ups (look_up c.args.self.now k (question_of q)) → ⊥ = λ h.
-    number_absent i.automaton.now.graph s.lists.sets s.answers.items s.lists.edges.items s.lists.ends.items s.numbers i.weight k q held within (read ∙ c.if-number-ne0.false) (subst (λ (t : Tabled). Has t.look_ups (look_up t k (question_of q))) (sym c.self.view_is) h) in
+    number_absent i.automaton.now.graph s.lists.sets s.answers.items s.lists.edges.items s.lists.ends.items s.numbers i.weight k q held within
+    (read ∙ c.if-number-ne0.false) (subst (λ (t : Tabled). Has t.look_ups (look_up t k (question_of q))) (sym c.self.view_is) h) in
     subst (λ (t : Tabled). IfErr c.answer.result (IsRefusal t)) (sym (once_is_first c.args.self.now (look_up c.args.self.now k (question_of q)) absent)) c.answer.ensures.refused

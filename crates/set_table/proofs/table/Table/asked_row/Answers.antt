@@ -29,7 +29,8 @@ edges_at-requires-clause-within c =
     let read : get_or s.numbers (place_in k q) 0 ≡ c.at-number.result = sym (c.at-number.ensures ∙ ap (λ p. get_or s.numbers p 0) c.place_of.ensures) in
     let found : slice_get c.args.self.now.look_ups (c.at-number.result - 1) ≡ Some (look_up c.args.self.now k (byte_read c.args.byte)) =
     subst (λ (t : Tabled). slice_get t.look_ups (c.at-number.result - 1) ≡ Some (look_up t k (byte_read c.args.byte))) c.self.view_is
-    (number_found i.automaton.now.graph s.lists.sets s.answers.items s.lists.edges.items s.lists.ends.items s.numbers i.weight k q c.at-number.result c.self.invariant.held within small read c.if-number-eq0.false) in
+    (number_found i.automaton.now.graph s.lists.sets s.answers.items s.lists.edges.items s.lists.ends.items s.numbers i.weight k q c.at-number.result
+    c.self.invariant.held within small read c.if-number-eq0.false) in
     slice_get_within c.args.self.now.look_ups (c.at-number.result - 1) (look_up c.args.self.now k (byte_read c.args.byte)) found
 
 pub edges_at-requires-clause-edges : goal.edges_at-requires-clause-edges
@@ -43,7 +44,8 @@ edges_at-requires-clause-edges c = λ r there is.
     let read : get_or s.numbers (place_in k q) 0 ≡ c.at-number.result = sym (c.at-number.ensures ∙ ap (λ p. get_or s.numbers p 0) c.place_of.ensures) in
     let found : slice_get c.args.self.now.look_ups (c.at-number.result - 1) ≡ Some (look_up c.args.self.now k (byte_read c.args.byte)) =
     subst (λ (t : Tabled). slice_get t.look_ups (c.at-number.result - 1) ≡ Some (look_up t k (byte_read c.args.byte))) c.self.view_is
-    (number_found i.automaton.now.graph s.lists.sets s.answers.items s.lists.edges.items s.lists.ends.items s.numbers i.weight k q c.at-number.result c.self.invariant.held within small read c.if-number-eq0.false) in
+    (number_found i.automaton.now.graph s.lists.sets s.answers.items s.lists.edges.items s.lists.ends.items s.numbers i.weight k q c.at-number.result
+    c.self.invariant.held within small read c.if-number-eq0.false) in
     byte_is_no_end c.args.byte (sym (not_ended (set_at c.args.self.now.sets k) (byte_read c.args.byte) r (sym found ∙ there)) ∙ is)
 
 pub returns-clause-some : goal.returns-clause-some
@@ -57,7 +59,8 @@ returns-clause-some c =
     let read : get_or s.numbers (place_in k q) 0 ≡ c.at-number.result = sym (c.at-number.ensures ∙ ap (λ p. get_or s.numbers p 0) c.place_of.ensures) in
     let found : slice_get c.args.self.now.look_ups (c.at-number.result - 1) ≡ Some (look_up c.args.self.now k (byte_read c.args.byte)) =
     subst (λ (t : Tabled). slice_get t.look_ups (c.at-number.result - 1) ≡ Some (look_up t k (byte_read c.args.byte))) c.self.view_is
-    (number_found i.automaton.now.graph s.lists.sets s.answers.items s.lists.edges.items s.lists.ends.items s.numbers i.weight k q c.at-number.result c.self.invariant.held within small read c.if-number-eq0.false) in
+    (number_found i.automaton.now.graph s.lists.sets s.answers.items s.lists.edges.items s.lists.ends.items s.numbers i.weight k q c.at-number.result
+    c.self.invariant.held within small read c.if-number-eq0.false) in
     (subst (λ (t : Tabled). k < length t.sets) c.self.view_is within, c.edges_at.ensures (look_up c.args.self.now k (byte_read c.args.byte)) found)
 
 pub returns-clause-asked : goal.returns-clause-asked
@@ -71,7 +74,8 @@ returns-clause-asked c =
     let read : get_or s.numbers (place_in k q) 0 ≡ c.at-number.result = sym (c.at-number.ensures ∙ ap (λ p. get_or s.numbers p 0) c.place_of.ensures) in
     let found : slice_get c.args.self.now.look_ups (c.at-number.result - 1) ≡ Some (look_up c.args.self.now k (byte_read c.args.byte)) =
     subst (λ (t : Tabled). slice_get t.look_ups (c.at-number.result - 1) ≡ Some (look_up t k (byte_read c.args.byte))) c.self.view_is
-    (number_found i.automaton.now.graph s.lists.sets s.answers.items s.lists.edges.items s.lists.ends.items s.numbers i.weight k q c.at-number.result c.self.invariant.held within small read c.if-number-eq0.false) in
+    (number_found i.automaton.now.graph s.lists.sets s.answers.items s.lists.edges.items s.lists.ends.items s.numbers i.weight k q c.at-number.result
+    c.self.invariant.held within small read c.if-number-eq0.false) in
     Has-slice_get c.args.self.now.look_ups (c.at-number.result - 1) (look_up c.args.self.now k (byte_read c.args.byte)) found
 
 pub returns-then-number-eq0-clause-none : goal.returns-then-number-eq0-clause-none
@@ -81,4 +85,6 @@ returns-then-number-eq0-clause-none c = λ within h.
     let k = c.args.set in
     let q : TableQuestion = Byte c.args.byte in
     let read : get_or s.numbers (place_in k q) 0 ≡ c.at-number.result = sym (c.at-number.ensures ∙ ap (λ p. get_or s.numbers p 0) c.place_of.ensures) in
-    number_absent i.automaton.now.graph s.lists.sets s.answers.items s.lists.edges.items s.lists.ends.items s.numbers i.weight k q c.self.invariant.held (subst (λ (t : Tabled). k < length t.sets) (sym c.self.view_is) within) (read ∙ c.if-number-eq0.true) (subst (λ (t : Tabled). Has t.look_ups (look_up t k (byte_read c.args.byte))) (sym c.self.view_is) h)
+    number_absent i.automaton.now.graph s.lists.sets s.answers.items s.lists.edges.items s.lists.ends.items s.numbers i.weight k q
+    c.self.invariant.held (subst (λ (t : Tabled). k < length t.sets) (sym c.self.view_is) within) (read ∙ c.if-number-eq0.true)
+    (subst (λ (t : Tabled). Has t.look_ups (look_up t k (byte_read c.args.byte))) (sym c.self.view_is) h)

@@ -39,14 +39,19 @@ loop-k-preserved c =
     elim c.match-start.branch [
       | in-Some-Some w ↦ (let s = w.new.result in
           let opens : bit_at (listed blocks s.start) (opening_bit v k) ≡ 1 =
-          ap (λ p. bit_at (listed blocks p) (opening_bit v k)) w.new.ensures.start ∙ stands blocks (opening_bit v k) c.place_of-start.result w.in-Some-Some.start c.place_of-start.ensures.some w.in-Some-Some.is-0 in
+          ap (λ p. bit_at (listed blocks p) (opening_bit v k)) w.new.ensures.start ∙
+          stands blocks (opening_bit v k) c.place_of-start.result w.in-Some-Some.start c.place_of-start.ensures.some w.in-Some-Some.is-0 in
           let closes : bit_at (listed blocks s.end) (closing_bit v k) ≡ 1 =
-          ap (λ p. bit_at (listed blocks p) (closing_bit v k)) w.new.ensures.end ∙ stands blocks (closing_bit v k) c.place_of-end.result w.in-Some-Some.end c.place_of-end.ensures.some w.in-Some-Some.is-1 in
+          ap (λ p. bit_at (listed blocks p) (closing_bit v k)) w.new.ensures.end ∙
+          stands blocks (closing_bit v k) c.place_of-end.result w.in-Some-Some.end c.place_of-end.ensures.some w.in-Some-Some.is-1 in
           let is : c.match-start.row ≡ c.loop-k.row ++ Some s ∷ [] = w.row-is ∙ w.push.ensures in
           record {
             so_far = omega (arith, ap length is, length-append {A = Option Span}, c.loop-k.invariant.so_far);
             marked = subst (λ (row : List (Option Span)). All (IsListed blocks) row) (sym is)
-                (listed_more blocks c.loop-k.row (Some s) c.loop-k.invariant.marked (bit_positive (listed blocks s.start) (opening_bit v k) opens, bit_positive (listed blocks s.end) (closing_bit v k) closes));
+                (listed_more blocks c.loop-k.row (Some s) c.loop-k.invariant.marked (
+                  bit_positive (listed blocks s.start) (opening_bit v k) opens,
+                  bit_positive (listed blocks s.end) (closing_bit v k) closes,
+                ));
             only = λ row h. is ∙ only_more v k blocks c.loop-k.row s c.loop-k-test.true opens closes row h (c.loop-k.invariant.only row h);
           })
       | in-None-None w ↦ (let is : c.match-start.row ≡ c.loop-k.row ++ None ∷ [] = w.row-is ∙ w.push-in-None-None.ensures in
@@ -60,7 +65,8 @@ loop-k-preserved c =
     ]
 
 pub returns-then-has_blocks-clause-some : goal.returns-then-has_blocks-clause-some
-returns-then-has_blocks-clause-some c = row_is c.args.v c.args.blocks.now c.loop-k.row (omega (arith, c.loop-k.invariant.so_far)) c.loop-k.invariant.marked (c.has_blocks.ensures.0 c.if-has_blocks.true)
+returns-then-has_blocks-clause-some c = row_is c.args.v c.args.blocks.now c.loop-k.row (omega (arith, c.loop-k.invariant.so_far))
+    c.loop-k.invariant.marked (c.has_blocks.ensures.0 c.if-has_blocks.true)
 
 pub returns-else-has_blocks-clause-none : goal.returns-else-has_blocks-clause-none
 returns-else-has_blocks-clause-none c =

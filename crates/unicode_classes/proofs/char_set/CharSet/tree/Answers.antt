@@ -39,15 +39,21 @@ returns c =
     let rs = c.parts-ranges.result.now in
     let is : rs ≡ c.args.self.now = c.parts-ranges.ensures.value ∙ c.self.view_is in
     let are : AreCharacters rs = subst AreCharacters (sym c.parts-ranges.ensures.value) c.self.invariant in
-    let one = next_arm 0 0 0 128 rs c.in_ok-one.one [] [] (arm_trees c.in_ok-arms.arms) are (subst AreApart c.one.view_is c.one.invariant) block_one c.in_ok-one.ensures c.in_ok-arms.ensures.block no_length in
-    let two = next_arm 192 1 128 2048 rs c.in_ok-two.two (0 ∷ []) (arm_trees c.in_ok-arms.arms) (arm_trees c.in_ok-arms-2.arms) are (subst AreApart c.two.view_is c.two.invariant) block_two c.in_ok-two.ensures c.in_ok-arms-2.ensures.block one in
-    let three = next_arm 224 2 2048 65536 rs c.in_ok-three.three (0 ∷ (1 ∷ [])) (arm_trees c.in_ok-arms-2.arms) (arm_trees c.in_ok-arms-3.arms) are (subst AreApart c.three.view_is c.three.invariant) block_three c.in_ok-three.ensures
+    let one = next_arm 0 0 0 128 rs c.in_ok-one.one [] [] (arm_trees c.in_ok-arms.arms) are (subst AreApart c.one.view_is c.one.invariant) block_one
+    c.in_ok-one.ensures c.in_ok-arms.ensures.block no_length in
+    let two = next_arm 192 1 128 2048 rs c.in_ok-two.two (0 ∷ []) (arm_trees c.in_ok-arms.arms) (arm_trees c.in_ok-arms-2.arms) are
+    (subst AreApart c.two.view_is c.two.invariant) block_two c.in_ok-two.ensures c.in_ok-arms-2.ensures.block one in
+    let three = next_arm 224 2 2048 65536 rs c.in_ok-three.three (0 ∷ (1 ∷ [])) (arm_trees c.in_ok-arms-2.arms) (arm_trees c.in_ok-arms-3.arms) are
+    (subst AreApart c.three.view_is c.three.invariant) block_three c.in_ok-three.ensures
     c.in_ok-arms-3.ensures.block two in
-    let four = next_arm 240 3 65536 1114112 rs c.in_ok-four.four (0 ∷ (1 ∷ (2 ∷ []))) (arm_trees c.in_ok-arms-3.arms) (arm_trees c.in_ok-arms-4.arms) are (subst AreApart c.four.view_is c.four.invariant) block_four c.in_ok-four.ensures
+    let four = next_arm 240 3 65536 1114112 rs c.in_ok-four.four (0 ∷ (1 ∷ (2 ∷ []))) (arm_trees c.in_ok-arms-3.arms) (arm_trees c.in_ok-arms-4.arms)
+    are (subst AreApart c.four.view_is c.four.invariant) block_four c.in_ok-four.ensures
     c.in_ok-arms-4.ensures.block three in
-    let shape : IsClassTree c.args.self.now (tree_of c.alternation_of.result) = subst (λ (xs : Ranges). IsClassTree xs (tree_of c.alternation_of.result)) is (arm_trees c.in_ok-arms-4.arms, four, c.alternation_of.ensures) in
+    let shape : IsClassTree c.args.self.now (tree_of c.alternation_of.result) =
+    subst (λ (xs : Ranges). IsClassTree xs (tree_of c.alternation_of.result)) is (arm_trees c.in_ok-arms-4.arms, four, c.alternation_of.ensures) in
     record {
       fits = class_tree_fits c.args.self.now (tree_of c.alternation_of.result) shape;
       shape = shape;
-      plain = class_tree_is_plain c.args.self.now (tree_of c.alternation_of.result) (subst AreApart (sym c.parts-ranges.ensures.value ∙ is) c.parts-ranges.ensures.apart) (subst AreCharacters is are) c.requires shape;
+      plain = class_tree_is_plain c.args.self.now (tree_of c.alternation_of.result)
+          (subst AreApart (sym c.parts-ranges.ensures.value ∙ is) c.parts-ranges.ensures.apart) (subst AreCharacters is are) c.requires shape;
     }
