@@ -42,7 +42,7 @@ smaller_of (Some x) (Some y) = by_order (name_cmp x y) (Some x) (Some x) (Some y
 
 both_by : (P Q : VarName → Type 0) (x y : VarName) (o : Ordering) → name_cmp x y ≡ o → IsLeast P x → IsLeast Q y → IsLeastOf (λ z. P z ⊎ Q z) (by_order o (Some x) (Some x) (Some y))
 both_by P Q x y Less e h g = (inl h.0, λ z a lt. elim a [ inl p ↦ h.1 z p lt | inr q ↦ g.1 z q (nat_list_cmp_total.trans z x y lt e) ])
-both_by P Q x y Equal e h g = (inl h.0, λ z a lt. elim a [ inl p ↦ h.1 z p lt | inr q ↦ g.1 z q (subst (λ (w : VarName). name_cmp z w ≡ Less) (exact_bytes x y e) lt) ])
+both_by P Q x y Equal e h g = (inl h.0, λ z a lt. elim a [ inl p ↦ h.1 z p lt | inr q ↦ g.1 z q (rw (← exact_bytes x y e) lt) ])
 both_by P Q x y Greater e h g = (inr g.0, λ z a lt. elim a [ inl p ↦ h.1 z p (nat_list_cmp_total.trans z y x lt (turned x y e)) | inr q ↦ g.1 z q lt ])
 
 -- the least name of either
@@ -58,9 +58,9 @@ least_both P Q (Some x) (Some y) h g = both_by P Q x y (name_cmp x y) refl h g
 pub lower_in_front : (names : List VarName) (k : ℕ) (name z : VarName) → Ascending names → slice_get names k ≡ Some name → Has names z → name_cmp z name ≡ Less → Has (take k names) z
 unfolding IsStrictlySortedBy
 lower_in_front [] k name z up at h lt = absurd h
-lower_in_front (y ∷ names) zero name z up at (inl e) lt = absurd (let f : y ≡ name = cc in not_below_itself z (subst (λ (w : VarName). name_cmp z w ≡ Less) (sym f ∙ e) lt))
+lower_in_front (y ∷ names) zero name z up at (inl e) lt = absurd (let f : y ≡ name = cc in not_below_itself z (rw (sym f ∙ e) at lt))
 lower_in_front (y ∷ names) zero name z up at (inr h) lt =
-    absurd (let f : y ≡ name = cc in not_both_below y z (below_all y z names up.0 h) (subst (λ (w : VarName). name_cmp z w ≡ Less) (sym f) lt))
+    absurd (let f : y ≡ name = cc in not_both_below y z (below_all y z names up.0 h) (rw f lt))
 lower_in_front (y ∷ names) (suc k) name z up at (inl e) lt = inl e
 lower_in_front (y ∷ names) (suc k) name z up at (inr h) lt = inr (lower_in_front names k name z up.1 at h lt)
 

@@ -35,7 +35,7 @@ where_place : (p : ℕ → Bool) (names : List VarName) (x : VarName) (k : ℕ) 
 where_place p [] x k at t = absurd (cc)
 where_place p (y ∷ names) x zero at t =
     let e : y ≡ x = cc in
-    subst (λ b. Has (if b then y ∷ names_where (λ k. p (suc k)) names else names_where (λ k. p (suc k)) names) x) (sym t) (inl e)
+    rw t (inl e)
 where_place p (y ∷ names) x (suc k) at t = by (p 0) (where_place (λ j. p (suc j)) names x k at t)
   where
     by : (b : Bool) → Has (names_where (λ j. p (suc j)) names) x → Has (if b then y ∷ names_where (λ j. p (suc j)) names else names_where (λ j. p (suc j)) names) x
@@ -87,7 +87,7 @@ pub members_one : (names : List VarName) (n : ℕ) (name : VarName) (s : NameBit
 members_one names n name s at is x = (
   λ h.
       let q = number_of names s x h in
-      let here : slice_get names n ≡ Some x = subst (λ k. slice_get names k ≡ Some x) ((is q.0).0 q.2) q.1 in
+      let here : slice_get names n ≡ Some x = rw (← (is q.0).0 q.2) q.1 in
       (let e : name ≡ x = cc in e, Has-slice_get names n x here),
   λ p. has_number names s x n (at ∙ ap Some p.0) ((is n).1 refl),
 )
@@ -210,9 +210,9 @@ bit_without a b k fits_a fits_b = elim (cases_lt k 32) as (λ _. (bit_at (bit_an
 pub single_bit : (n k : ℕ) → n < 32 → (bit_at (1 * 2 ^ n % 2 ^ 32) k ≡ 1) ↔ (k ≡ n)
 single_bit n k l =
     let is : 1 * 2 ^ n % 2 ^ 32 ≡ 2 ^ n = one_shl n 32 l in
-    subst (λ m. (bit_at m k ≡ 1) ↔ (k ≡ n)) (sym is) (
+    rw is (
       λ e. by (nat_eq k n) refl e,
-      λ e. subst (λ j. bit_at (2 ^ n) j ≡ 1) (sym e) (bit_at-pow_same n),
+      λ e. rw e (bit_at-pow_same n),
     )
   where
     by : (b : Bool) → nat_eq k n ≡ b → bit_at (2 ^ n) k ≡ 1 → k ≡ n

@@ -25,12 +25,12 @@ AllSequential ts = (t : Tree) → Has ts t → IsSequential t
 -- the first part that has a fault gives it
 pub cat_inner : (ts : List Tree) (k : ℕ) (t : Tree) (e : CheckFault) → slice_get ts k ≡ Some t → AllSequential (take k ts) → IsFault t e → InnerFault (cat_all ts) e
 cat_inner [] k t e at ok h = absurd (cc)
-cat_inner (u ∷ ts) zero t e at ok h = inl (let f : u ≡ t = cc in subst (λ (w : Tree). IsFault w e) (sym f) h)
+cat_inner (u ∷ ts) zero t e at ok h = inl (let f : u ≡ t = cc in rw f h)
 cat_inner (u ∷ ts) (suc k) t e at ok h = inr (ok u (inl refl), cat_inner ts k t e at (λ w a. ok w (inr a)) h)
 
 pub alt_inner : (ts : List Tree) (k : ℕ) (t : Tree) (e : CheckFault) → slice_get ts k ≡ Some t → AllSequential (take k ts) → IsFault t e → InnerFault (alt_all ts) e
 alt_inner [] k t e at ok h = absurd (cc)
-alt_inner (u ∷ ts) zero t e at ok h = inl (let f : u ≡ t = cc in subst (λ (w : Tree). IsFault w e) (sym f) h)
+alt_inner (u ∷ ts) zero t e at ok h = inl (let f : u ≡ t = cc in rw f h)
 alt_inner (u ∷ ts) (suc k) t e at ok h = inr (ok u (inl refl), alt_inner ts k t e at (λ w a. ok w (inr a)) h)
 
 pub cat_parts_sequential : (ts : List Tree) → AllSequential ts → HasSequentialParts (cat_all ts)
@@ -128,7 +128,7 @@ twice_next ts k t vars part twice both next at before here old shared added x =
     let front = take k ts in
     let are = vars_are (cat_all front) vars x before in
     let more = two_more front t x in
-    subst (λ (us : List Tree). Has next x ↔ InTwoParts (cat_all us) x) (sym (take_at_more ts k t at)) (
+    rw (take_at_more ts k t at) (
       λ h. more.0 (elim ((added x).0 h) as (λ _. InTwoParts (cat_all front) x ⊎ (HasVar (cat_all front) x × HasVar t x)) [
         | inl o ↦ inl ((old x).0 o)
         | inr s ↦ (let p = (shared x).0 s in inr (are.0 p.0, (here x).0 p.1))
@@ -151,15 +151,15 @@ cat_done_fault ts k x twice le ok are least =
     let all : take k ts ≡ ts = take_all k ts le in
     inr (
       cat_parts_sequential ts (subst AllSequential all ok),
-      cat_own ts x (subst (λ (us : List Tree). IsLeast (InTwoParts (cat_all us)) x) all (least_same (Has twice) (InTwoParts (cat_all (take k ts))) (Some x) are least)),
+      cat_own ts x (rw (← all) (least_same (Has twice) (InTwoParts (cat_all (take k ts))) (Some x) are least)),
     )
 
 pub cat_done : (ts : List Tree) (k : ℕ) (vars twice : List VarName) → length ts ≤ k → AllSequential (take k ts) → Adds [] (HasVar (cat_all (take k ts))) vars →
     ((y : VarName) → Has twice y ↔ InTwoParts (cat_all (take k ts)) y) → ((y : VarName) → Has twice y → ⊥) → IsSequential (cat_all ts) × ((x : VarName) → Has vars x ↔ HasVar (cat_all ts) x)
 cat_done ts k vars twice le ok added are none =
     let all : take k ts ≡ ts = take_all k ts le in (
-      cat_sequential ts (subst AllSequential all ok) (subst (λ (us : List Tree). (x : VarName) → InTwoParts (cat_all us) x → ⊥) all (λ x h. none x ((are x).1 h))),
-      λ x. vars_are (cat_all ts) vars x (subst (λ (us : List Tree). Adds [] (HasVar (cat_all us)) vars) all added),
+      cat_sequential ts (subst AllSequential all ok) (rw (← all) (λ x h. none x ((are x).1 h))),
+      λ x. vars_are (cat_all ts) vars x (rw (← all) added),
     )
 
 pub alt_done : (ts : List Tree) (k : ℕ) (vars : List VarName) → length ts ≤ k → AllSequential (take k ts) → Adds [] (HasVar (cat_all (take k ts))) vars →
@@ -168,7 +168,7 @@ alt_done ts k vars le ok added =
     let all : take k ts ≡ ts = take_all k ts le in (
       alt_sequential ts (subst AllSequential all ok),
       λ x.
-          let is = vars_are (cat_all ts) vars x (subst (λ (us : List Tree). Adds [] (HasVar (cat_all us)) vars) all added) in
+          let is = vars_are (cat_all ts) vars x (rw (← all) added) in
           (λ h. (arms_have ts x).1 (is.0 h), λ v. is.1 ((arms_have ts x).0 v)),
     )
 

@@ -34,7 +34,7 @@ parts_sure (t ∷ ts) x (inr s) = let p = parts_sure ts x s in (p.0, inr p.1, p.
 
 part_sure : (ts : List Tree) (t : Tree) (x : VarName) → Has ts t → IsSure t x → IsSure (cat_all ts) x
 part_sure [] t x has s = absurd has
-part_sure (u ∷ ts) t x (inl e) s = inl (subst (λ (w : Tree). IsSure w x) (sym e) s)
+part_sure (u ∷ ts) t x (inl e) s = inl (rw e s)
 part_sure (u ∷ ts) t x (inr has) s = inr (part_sure ts t x has s)
 
 sure_in_turn : NamesInTurn IsSure (λ ts. IsSure (cat_all ts))
@@ -60,7 +60,7 @@ arms_sure (u ∷ ts) t x =
 pub next_arm : (ts : List Tree) (k : ℕ) (t : Tree) (vars arm new : List VarName) → slice_get ts k ≡ Some t → AreSureInAll (take k ts) vars →
     ((x : VarName) → Has arm x ↔ IsSure t x) → ((x : VarName) → Has new x ↔ (Has vars x × Has arm x)) → AreSureInAll (take (k + 1) ts) new
 next_arm ts k t vars arm new at before here both =
-    subst (λ (us : List Tree). AreSureInAll us new) (sym (take_at_more ts k t at)) (λ x. (
+    rw (take_at_more ts k t at) (λ x. (
       λ h. let p = (both x).0 h in (arms_sure (take k ts) t x).1 ((before x).0 p.0, (here x).0 p.1),
       λ s. let p = (arms_sure (take k ts) t x).0 s in (both x).1 ((before x).1 p.0, (here x).1 p.1),
     ))
@@ -73,7 +73,7 @@ AreShared a b both = (x : VarName) → Has both x ↔ (Has a x × Has b x)
 
 pub names_more : (a : List VarName) (k : ℕ) (name x : VarName) → slice_get a k ≡ Some name → Has (take (k + 1) a) x ↔ (Has (take k a) x ⊎ (name ≡ x))
 names_more a k name x at =
-    subst (λ (ns : List VarName). Has ns x ↔ (Has (take k a) x ⊎ (name ≡ x))) (sym (take_at_more a k name at)) (in_more (λ (y : VarName) (z : VarName). y ≡ z) Has names_in_turn (take k a) name x)
+    rw (take_at_more a k name at) (in_more (λ (y : VarName) (z : VarName). y ≡ z) Has names_in_turn (take k a) name x)
 
 pub shared_room : (a b both : List VarName) (k : ℕ) (name : VarName) → length a ≤ MOST_VARIABLES → slice_get a k ≡ Some name → AreShared (take k a) b both → HaveRoom both (λ x. name ≡ x)
 shared_room a b both k name few at before =
@@ -96,4 +96,4 @@ shared_same a b both k name at before not_in_b x = (
 )
 
 pub shared_done : (a b both : List VarName) (k : ℕ) → length a ≤ k → AreShared (take k a) b both → AreShared a b both
-shared_done a b both k le are = subst (λ (ns : List VarName). AreShared ns b both) (take_all k a le) are
+shared_done a b both k le are = rw (← take_all k a le) are

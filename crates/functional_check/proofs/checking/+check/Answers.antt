@@ -55,20 +55,20 @@ pub check_among-check_parts-requires : goal.check_among-check_parts-requires
 check_among-check_parts-requires t c =
     let ts = trees_of c.in-Cat.parts in
     let e = ap tree_of c.in-Cat.is ∙ tree_of-Cat c.in-Cat.parts in
-    (omega (arith, ap nodes e), (parts_well_built ts (subst IsWellBuilt e c.requires.built), (c.requires.ascending, λ x v. c.requires.among x (subst (λ f. HasVar f x) (sym e) v))))
+    (omega (arith, ap nodes e), (parts_well_built ts (subst IsWellBuilt e c.requires.built), (c.requires.ascending, λ x v. c.requires.among x (rw e v))))
 
 pub check_among-check_arms-requires : goal.check_among-check_arms-requires
 check_among-check_arms-requires t c =
     let ts = trees_of c.in-Alt.arms in
     let e = ap tree_of c.in-Alt.is ∙ tree_of-Alt c.in-Alt.arms in
     let built = subst IsWellBuilt e c.requires.built in
-    (omega (arith, ap nodes e, arms_nodes ts), (arms_well_built ts built, (c.requires.ascending, λ x v. c.requires.among x (subst (λ f. HasVar f x) (sym e) ((arms_have ts x).1 v)))))
+    (omega (arith, ap nodes e, arms_nodes ts), (arms_well_built ts built, (c.requires.ascending, λ x v. c.requires.among x (rw e ((arms_have ts x).1 v)))))
 
 pub check_among-captured-requires : goal.check_among-captured-requires
 check_among-captured-requires t c =
     let name = c.in-Cap.name in
     let e = ap tree_of c.in-Cap.is ∙ tree_of-Cap name c.in-Cap.sub in
-    c.requires.among name (subst (λ f. HasVar f name) (sym e) (inl (λ i. name)))
+    c.requires.among name (rw e (inl (λ i. name)))
 
 pub check_parts-check_among-requires : goal.check_parts-check_among-requires
 check_parts-check_among-requires t c =
@@ -125,6 +125,6 @@ check_among-returns-in-Empty t c =
     let set = members c.args.names.now c.empty.result in
     let none = members_none c.args.names.now c.empty.result c.empty.ensures in
     elim c.in-Empty.is [
-      | inl e ↦ subst (λ f. IsSequential f × ((x : VarName) → Has set x ↔ HasVar f x)) (sym (ap tree_of e ∙ tree_of-Empty)) (tt, λ x. (none x, λ h. absurd h))
-      | inr p ↦ subst (λ f. IsSequential f × ((x : VarName) → Has set x ↔ HasVar f x)) (sym (ap tree_of p.1 ∙ tree_of-One p.0)) (tt, λ x. (none x, λ h. absurd h))
+      | inl e ↦ rw (ap tree_of e ∙ tree_of-Empty) (tt, λ x. (none x, λ h. absurd h))
+      | inr p ↦ rw (ap tree_of p.1 ∙ tree_of-One p.0) (tt, λ x. (none x, λ h. absurd h))
     ]

@@ -20,7 +20,7 @@ pub sure_among-sure_in_some-requires : goal.sure_among-sure_in_some-requires
 sure_among-sure_in_some-requires t c =
     let ts = trees_of c.in-Cat.parts in
     let e = ap tree_of c.in-Cat.is ∙ tree_of-Cat c.in-Cat.parts in
-    (omega (arith, ap nodes e), (parts_well_built ts (subst IsWellBuilt e c.requires.built), (c.requires.ascending, λ x v. c.requires.among x (subst (λ f. HasVar f x) (sym e) v))))
+    (omega (arith, ap nodes e), (parts_well_built ts (subst IsWellBuilt e c.requires.built), (c.requires.ascending, λ x v. c.requires.among x (rw e v))))
 
 pub sure_among-sure_in_all-requires : goal.sure_among-sure_in_all-requires
 sure_among-sure_in_all-requires t c =
@@ -28,7 +28,7 @@ sure_among-sure_in_all-requires t c =
     let e = ap tree_of c.in-Alt.is ∙ tree_of-Alt c.in-Alt.arms in
     let built = subst IsWellBuilt e c.requires.built in (
       omega (arith, ap nodes e, arms_nodes ts),
-      (omega (arith, arms_two ts built), (arms_well_built ts built, (c.requires.ascending, λ x v. c.requires.among x (subst (λ f. HasVar f x) (sym e) ((arms_have ts x).1 v))))),
+      (omega (arith, arms_two ts built), (arms_well_built ts built, (c.requires.ascending, λ x v. c.requires.among x (rw e ((arms_have ts x).1 v))))),
     )
 
 pub sure_in_all-sure_among-vars-requires : goal.sure_in_all-sure_among-vars-requires
@@ -72,8 +72,8 @@ sure_among-returns-in-Empty t c =
     let set = members c.args.names.now c.empty.result in
     let none = members_none c.args.names.now c.empty.result c.empty.ensures in
     elim c.in-Empty.is [
-      | inl e ↦ subst (λ f. (x : VarName) → Has set x ↔ IsSure f x) (sym (ap tree_of e ∙ tree_of-Empty)) (λ x. (none x, λ h. absurd h))
-      | inr p ↦ subst (λ f. (x : VarName) → Has set x ↔ IsSure f x) (sym (ap tree_of p.1 ∙ tree_of-One p.0)) (λ x. (none x, λ h. absurd h))
+      | inl e ↦ rw (ap tree_of e ∙ tree_of-Empty) (λ x. (none x, λ h. absurd h))
+      | inr p ↦ rw (ap tree_of p.1 ∙ tree_of-One p.0) (λ x. (none x, λ h. absurd h))
     ]
 
 pub sure_among-returns-in-Cap : goal.sure_among-returns-in-Cap
@@ -85,11 +85,11 @@ sure_among-returns-in-Cap t c =
     let own = members names c.of.result in
     let all = members names c.union.result in
     let e = ap tree_of c.in-Cap.is ∙ tree_of-Cap name c.in-Cap.sub in
-    let has = c.requires.among name (subst (λ f. HasVar f name) (sym e) (inl (λ i. name))) in
+    let has = c.requires.among name (rw e (inl (λ i. name))) in
     let added = gathered_same vars all (Has own) (λ (x : VarName). name ≡ x) true (own_name names own name c.of.ensures has)
     (members_either names c.sure_among-vars-in-Cap.result c.of.result c.union.result c.union.ensures) in
-    let inner = subst (λ f. (x : VarName) → Has vars x ↔ IsSure (tree_of f) x) c.deref-in-Cap.ensures c.sure_among-vars-in-Cap.ensures in
-    subst (λ f. (x : VarName) → Has all x ↔ IsSure f x) (sym e) (captured_sure name sub vars all inner added)
+    let inner = rw c.deref-in-Cap.ensures at c.sure_among-vars-in-Cap.ensures in
+    rw e (captured_sure name sub vars all inner added)
 
 pub sure_among-returns-in-Rep : goal.sure_among-returns-in-Rep
 sure_among-returns-in-Rep t c =
@@ -99,9 +99,9 @@ sure_among-returns-in-Rep t c =
     let vars = members names c.sure_among-vars.result in
     let all = members names c.repeated.result in
     let e = ap tree_of c.in-Rep.is ∙ tree_of-Rep c.in-Rep.sub least most in
-    let inner = subst (λ f. (x : VarName) → Has vars x ↔ IsSure (tree_of f) x) c.deref.ensures c.sure_among-vars.ensures in
+    let inner = rw c.deref.ensures at c.sure_among-vars.ensures in
     let when = members_when names c.sure_among-vars.result c.repeated.result (least ≡ 1) (most ≡ Some 1) c.repeated.ensures in
-    subst (λ f. (x : VarName) → Has all x ↔ IsSure f x) (sym e) (λ x. (
+    rw e (λ x. (
       λ h. let p = (when x).0 h in (p.0, p.1, (inner x).0 p.2),
       λ s. (when x).1 (s.0, s.1, (inner x).1 s.2),
     ))
