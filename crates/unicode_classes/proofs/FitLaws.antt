@@ -10,7 +10,7 @@ abbrev pub Texts : Type 1
 Texts = List ℕ → Type 0
 
 pub stands_append : (d : List ℕ) (u v : List ℕ) (i k j : ℕ) → Stands d i u k → Stands d k v j → Stands d i (u ++ v) j
-stands_append d [] v i k j a b = subst (λ (n : ℕ). Stands d n v j) (sym a) b
+stands_append d [] v i k j a b = rw a b
 stands_append d (x ∷ u) v i k j a b = (a.0, stands_append d u v (i + 1) k j a.1 b)
 
 pub stands_split : (d : List ℕ) (u v : List ℕ) (i j : ℕ) → Stands d i (u ++ v) j → (k : ℕ) × Stands d i u k × Stands d k v j
@@ -27,7 +27,7 @@ fits_same f A B same h d i j m = (
 pub fits_one : (set : FinSet nat_cmp) → FitsTexts (one set) (IsByteOf set)
 fits_one set d i j m = (
   λ fit. (fit.4, fit.0 ∷ [], (fit.0, fit.2, refl), (fit.1, sym fit.3)),
-  λ r. (let b = r.2.0 in let s : Stands d i (b ∷ []) j = subst (λ (w : List ℕ). Stands d i w j) (sym r.2.2) r.3 in (b, s.0, r.2.1, sym s.1, r.0)),
+  λ r. (let b = r.2.0 in let s : Stands d i (b ∷ []) j = rw (← r.2.2) at r.3 in (b, s.0, r.2.1, sym s.1, r.0)),
 )
 
 pub fits_pair : (f g : Tree) (A B : Texts) → FitsTexts f A → FitsTexts g B → FitsTexts (cat f (cat g cat_end)) (AreJoined A B)
@@ -41,10 +41,10 @@ fits_pair f g A B hf hg d i j m = (
       let e : l ≡ j = rest.4.0 in
       let none : rest.2 ≡ [] = rest.4.1 in
       let second : fit.2 ≡ [] = rest.6 ∙ (λ t. b.0 t ++ none t) in
-      (fit.6 ∙ (λ t. a.0 t ++ second t), a.1 ++ b.1, (a.1, b.1, a.2, b.2, refl), stands_append d a.1 b.1 i k j a.3 (subst (λ (n : ℕ). Stands d k b.1 n) e b.3)),
+      (fit.6 ∙ (λ t. a.0 t ++ second t), a.1 ++ b.1, (a.1, b.1, a.2, b.2, refl), stands_append d a.1 b.1 i k j a.3 (rw (← e) b.3)),
   λ r.
       let w = r.2 in
-      let s = stands_split d w.0 w.1 i j (subst (λ (w : List ℕ). Stands d i w j) (sym w.4) r.3) in
+      let s = stands_split d w.0 w.1 i j (rw w.4 r.3) in
       (s.0, [], [], (hf d i s.0 []).1 (refl, w.0, w.2, s.1), (j, [], [], (hg d s.0 j []).1 (refl, w.1, w.3, s.2), (refl, refl), (λ x a b. a), refl), (λ x a b. a), r.0),
 )
 

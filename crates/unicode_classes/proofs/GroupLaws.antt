@@ -17,17 +17,17 @@ module _ (byte : ℕ) (tails : Ranges) where
   -- where a byte of the new groups is from: the one that was put, with its tails, or a group that was there with these tails
   pub put_from : (gs new : List TailGroup) → IsPut byte tails gs new → (h : TailGroup) (b : ℕ) → Has new h → IsByteIn h.bytes b
       → ((b ≡ byte) × (h.tails ≡ tails)) ⊎ ((g : TailGroup) × Has gs g × IsByteIn g.bytes b × (g.tails ≡ h.tails))
-  put_from _ _ opens h b (inl e) is = elim ((in_more empty byte b).0 (subst (λ (x : TailGroup). IsByteIn x.bytes b) (sym e) is)) [
+  put_from _ _ opens h b (inl e) is = elim ((in_more empty byte b).0 (rw (← e) at is)) [
     | inl x ↦ inl (x, sym (ap (λ (x : TailGroup). x.tails) e))
     | inr y ↦ absurd (in_none b y)
   ]
   put_from _ _ opens h b (inr k) is = absurd k
-  put_from _ _ (joins g gs same) h b (inl e) is = elim ((in_more g.bytes byte b).0 (subst (λ (x : TailGroup). IsByteIn x.bytes b) (sym e) is)) [
+  put_from _ _ (joins g gs same) h b (inl e) is = elim ((in_more g.bytes byte b).0 (rw (← e) at is)) [
     | inl x ↦ inl (x, sym (ap (λ (x : TailGroup). x.tails) e) ∙ same)
     | inr y ↦ inr (g, inl refl, y, ap (λ (x : TailGroup). x.tails) e)
   ]
   put_from _ _ (joins g gs same) h b (inr k) is = inr (h, inr k, is, refl)
-  put_from _ _ (later g {gs} {new} other p) h b (inl e) is = inr (g, inl refl, subst (λ (x : TailGroup). IsByteIn x.bytes b) (sym e) is, ap (λ (x : TailGroup). x.tails) e)
+  put_from _ _ (later g {gs} {new} other p) h b (inl e) is = inr (g, inl refl, rw e is, ap (λ (x : TailGroup). x.tails) e)
   put_from _ _ (later g {gs} {new} other p) h b (inr k) is = elim (put_from gs new p h b k is) [
     | inl x ↦ inl x
     | inr r ↦ inr (r.0, inr r.1, r.2, r.3)
@@ -48,7 +48,7 @@ module _ (byte : ℕ) (tails : Ranges) where
   -- a byte that was in a group is in one
   pub put_keeps : (gs new : List TailGroup) → IsPut byte tails gs new → (g : TailGroup) (b : ℕ) → Has gs g → IsByteIn g.bytes b → (h : TailGroup) × Has new h × IsByteIn h.bytes b
   put_keeps _ _ opens g b k is = absurd k
-  put_keeps _ _ (joins x gs same) g b (inl e) is = (record x { bytes = insert x.bytes byte }, inl refl, (in_more x.bytes byte b).1 (inr (subst (λ (y : TailGroup). IsByteIn y.bytes b) (sym e) is)))
+  put_keeps _ _ (joins x gs same) g b (inl e) is = (record x { bytes = insert x.bytes byte }, inl refl, (in_more x.bytes byte b).1 (inr (rw e is)))
   put_keeps _ _ (joins x gs same) g b (inr k) is = (g, inr k, is)
   put_keeps _ _ (later x {gs} {new} other p) g b (inl e) is = (g, inl e, is)
   put_keeps _ _ (later x {gs} {new} other p) g b (inr k) is = (let r = put_keeps gs new p g b k is in (r.0, inr r.1, r.2))
@@ -74,11 +74,11 @@ module _ (byte : ℕ) (tails : Ranges) where
   least_same g b l is = ((in_more g.bytes byte b).1 (inr is.0), λ c h. elim ((in_more g.bytes byte c).0 h) [ inl e ↦ omega arith | inr k ↦ is.1 c k ])
 
   pub put_least : (gs new : List TailGroup) → IsPut byte tails gs new → AreBelow gs → (h : TailGroup) → Has new h → (b : ℕ) × IsLeastIn h.bytes b
-  put_least _ _ opens are h (inl e) = (byte, subst (λ (x : TailGroup). IsLeastIn x.bytes byte) e least_alone)
+  put_least _ _ opens are h (inl e) = (byte, rw (← e) least_alone)
   put_least _ _ opens are h (inr k) = absurd k
   put_least _ _ (joins g gs same) are h (inl e) =
       let b = are.least g (inl refl) in
-      (b.0, subst (λ (x : TailGroup). IsLeastIn x.bytes b.0) e (least_same g b.0 (are.below g b.0 (inl refl) b.1.0) b.1))
+      (b.0, rw (← e) (least_same g b.0 (are.below g b.0 (inl refl) b.1.0) b.1))
   put_least _ _ (joins g gs same) are h (inr k) = are.least h (inr k)
   put_least _ _ (later g {gs} {new} other p) are h (inl e) = are.least h (inl e)
   put_least _ _ (later g {gs} {new} other p) are h (inr k) = put_least gs new p (fewer g gs are) h k
@@ -177,12 +177,12 @@ module _ (base unit : ℕ) (ranges : Ranges) where
               (h.0, h.1, subst (λ (x : ℕ). IsByteIn h.0.bytes (base + x)) (sym e) h.2))
         ];
         holds = λ h b k is. elim (put_from (base + n) tails gs new put h b k is) [
-          | inl x ↦ (n, x.0, omega arith, subst (λ (rs : Ranges). (q : ℕ) → Covers rs q ↔ IsPartOf ranges (n * unit) (n * unit + unit) (n * unit + q)) (sym x.1) part)
+          | inl x ↦ (n, x.0, omega arith, rw (← x.1) at part)
           | inr r ↦ (let o = old.holds r.0 b r.1 r.2 in
               (o.0, o.1, omega (arith, o.2), subst (λ (rs : Ranges). (q : ℕ) → Covers rs q ↔ IsPartOf ranges (o.0 * unit) (o.0 * unit + unit) (o.0 * unit + q)) r.3 o.3))
         ];
         some = λ h k. elim (put_tails (base + n) tails gs new put h k) [
-          | inl e ↦ (some.0, subst (λ (rs : Ranges). Covers rs some.0) (sym e) some.1)
+          | inl e ↦ (some.0, rw (← e) at some.1)
           | inr r ↦ (let o = old.some r.0 r.1 in (o.0, subst (λ (rs : Ranges). Covers rs o.0) r.2 o.1))
         ];
         apart = λ h k. elim (put_tails (base + n) tails gs new put h k) [
@@ -200,7 +200,7 @@ module _ (base unit : ℕ) (ranges : Ranges) where
   -- the part of a digit that is told otherwise
   pub part_is : (n m : ℕ) (tails : Ranges) → n ≡ m → ((q : ℕ) → Covers tails q ↔ IsPartOf ranges (n * unit) (n * unit + unit) (n * unit + q)) →
       (q : ℕ) → Covers tails q ↔ IsPartOf ranges (m * unit) (m * unit + unit) (m * unit + q)
-  part_is n m tails e h = subst (λ (k : ℕ). (q : ℕ) → Covers tails q ↔ IsPartOf ranges (k * unit) (k * unit + unit) (k * unit + q)) e h
+  part_is n m tails e h = rw (← e) h
 
   -- a digit with a tail makes a byte
   pub digit_fits : (n : ℕ) (tails : Ranges) → ((v : ℕ) → Covers ranges v → base + v / unit < 256) →
@@ -213,4 +213,4 @@ module _ (base unit : ℕ) (ranges : Ranges) where
   -- a digit without tails
   pub none_covers : (n : ℕ) (tails : Ranges) → ((q : ℕ) → Covers tails q ↔ IsPartOf ranges (n * unit) (n * unit + unit) (n * unit + q)) → tails ≡ [] →
       (q : ℕ) → IsPartOf ranges (n * unit) (n * unit + unit) (n * unit + q) → ⊥
-  none_covers n tails part e q h = subst (λ (rs : Ranges). Covers rs q) e ((part q).1 h)
+  none_covers n tails part e q h = rw e at ((part q).1 h)

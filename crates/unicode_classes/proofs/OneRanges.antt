@@ -31,7 +31,7 @@ one_ranges (p ∷ ps) (q ∷ qs) h k same =
     let low : p.0 ≡ q.0 = (let a = begins_low p q ps qs h k (λ c. (same c).0) in let b = begins_low q p qs ps k h (λ c. (same c).1) in omega arith) in
     let high : p.1 ≡ q.1 = (let a = ends_low p q ps qs h k low (λ c. (same c).1) in let b = ends_low q p qs ps k h (sym low) (λ c. (same c).0) in omega arith) in
     let first : p ≡ q = λ i. (low i, high i) in
-    let k' : AreApart (p ∷ qs) = subst (λ (x : ℕ × ℕ). AreApart (x ∷ qs)) (sym first) k in
-    let same' : (c : ℕ) → Covers (p ∷ ps) c ↔ Covers (p ∷ qs) c = subst (λ (x : ℕ × ℕ). (c : ℕ) → Covers (p ∷ ps) c ↔ Covers (x ∷ qs) c) (sym first) same in
+    let k' : AreApart (p ∷ qs) = rw first k in
+    let same' : (c : ℕ) → Covers (p ∷ ps) c ↔ Covers (p ∷ qs) c = rw (← first) at same in
     let rest : ps ≡ qs = one_ranges ps qs h.2 k.2 (λ c. (same_rest p ps qs h (λ d. (same' d).0) c, same_rest p qs ps k' (λ d. (same' d).1) c)) in
     λ i. first i ∷ rest i

@@ -98,7 +98,7 @@ simple_arms ranges _ _ small most (some_text {n} {ns} {f = g} {arms} w is tree r
 -- where there is a text of one of the lengths, there is an arm
 some_arm : (ranges : List (ℕ × ℕ)) (ns : List ℕ) (arms : List Tree) (n : ℕ) (w : List ℕ) → Has ns n → IsLongText ranges n w → AreArms ranges ns arms → (f : Tree) × Has arms f
 some_arm ranges _ _ n w h is no_length = absurd h
-some_arm ranges _ arms n w (inl e) is (no_text {n = m} {ns} none rest) = absurd (none w (subst (λ (k : ℕ). IsLongText ranges k w) (sym e) is))
+some_arm ranges _ arms n w (inl e) is (no_text {n = m} {ns} none rest) = absurd (none w (rw e is))
 some_arm ranges _ arms n w (inr h) is (no_text {n = m} {ns} none rest) = some_arm ranges ns arms n w h is rest
 some_arm ranges _ _ n w h is (some_text {n = m} {ns} {f = g} {arms} v isv tree rest) = (g, inl refl)
 

@@ -47,7 +47,7 @@ next_of p rest next h =
     record { low = leb-true next p.0 b.0; up = leb-true p.0 p.1 d.0; rise = a.1 }
 
 pub gathered_next : (all set : Ranges) (k next : ℕ) → k < length all → AreGathered all set k next → IsNext (get_or all k (0, 0)) next (drop (k + 1) all)
-gathered_next all set k next l old = next_of (get_or all k (0, 0)) (drop (k + 1) all) next (subst (λ (xs : Ranges). ranges_rise next xs ≡ true) (drop_more all k (0, 0) l) old.rise)
+gathered_next all set k next l old = next_of (get_or all k (0, 0)) (drop (k + 1) all) next (rw (← drop_more all k (0, 0) l) old.rise)
 
 in_next : (p : ℕ × ℕ) (rest : Ranges) (c : ℕ) → IsTrue (in_ranges (p ∷ rest) c) ↔ (((p.0 ≤ c) × (c ≤ p.1)) ⊎ IsTrue (in_ranges rest c))
 unfolding in_ranges
@@ -64,7 +64,7 @@ in_next p rest c = (
 
 in_left : (all : Ranges) (k c : ℕ) → k < length all → IsTrue (in_ranges (drop k all) c) ↔ ((((get_or all k (0, 0)).0 ≤ c) × (c ≤ (get_or all k (0, 0)).1)) ⊎ IsTrue (in_ranges (drop (k + 1) all) c))
 in_left all k c l =
-    subst (λ (xs : Ranges). IsTrue (in_ranges xs c) ↔ ((((get_or all k (0, 0)).0 ≤ c) × (c ≤ (get_or all k (0, 0)).1)) ⊎ IsTrue (in_ranges (drop (k + 1) all) c))) (sym (drop_more all k (0, 0) l))
+    rw (drop_more all k (0, 0) l)
     (in_next (get_or all k (0, 0)) (drop (k + 1) all) c)
 
 pub gathered_more : (all set new : Ranges) (k next : ℕ) → k < length all
@@ -102,7 +102,7 @@ gathered_end all set k next test l exactly old c = (
   λ h. (let r = (old.covered c).0 (inl h) in (r.0, sym (exactly c (omega (arith, scalar_below c r.0))) ∙ r.1)),
   λ r. elim ((old.covered c).1 (r.0, exactly c (omega (arith, scalar_below c r.0)) ∙ r.1)) [
     | inl h ↦ h
-    | inr t ↦ absurd (none_in c (subst (λ (xs : Ranges). IsTrue (in_ranges xs c)) (drop_of_length-le all l) t.1))
+    | inr t ↦ absurd (none_in c (rw (← drop_of_length-le all l) t.1))
   ],
 )
 
@@ -135,7 +135,7 @@ given_test (Err e) p q same h = h
 pub one_property : (name : List ℕ) (r s : Ranges) → IsProperty name r → IsProperty name s → r ≡ s
 one_property name r s p q =
     let same : p.0 ≡ q.0 = some_is (sym p.1 ∙ q.1) in
-    let other : (c : ℕ) → Covers s c ↔ (IsScalar c × IsTrue (p.0 c)) = subst (λ (t : ℕ → Bool). (c : ℕ) → Covers s c ↔ (IsScalar c × IsTrue (t c))) (sym same) q.3 in
+    let other : (c : ℕ) → Covers s c ↔ (IsScalar c × IsTrue (p.0 c)) = rw (← same) at q.3 in
     one_ranges r s p.2 q.2 (λ c. (λ h. (other c).1 ((p.3 c).0 h), λ h. (p.3 c).1 ((other c).0 h)))
   where
     some_is : {m n : ℕ → Bool} → Some m ≡ Some n → m ≡ n

@@ -16,7 +16,7 @@ pub put_at : (byte : ℕ) (tails : List (ℕ × ℕ)) (gs : List TailGroup) (k :
     → IsPut byte tails gs (set gs k (record g { bytes = insert g.bytes byte }))
 put_at byte tails [] k g l is others e = absurd (omega arith)
 put_at byte tails (h ∷ gs) zero g l is others e =
-    subst (λ (x : TailGroup). IsPut byte tails (x ∷ gs) (record g { bytes = insert g.bytes byte } ∷ gs)) (sym is) (joins g gs e)
+    rw is (joins g gs e)
 put_at byte tails (h ∷ gs) (suc k) g l is others e =
     later h (others 0 g (omega arith)) (put_at byte tails gs k g (omega arith) is (λ j d b. others (suc j) d (omega arith)) e)
 
@@ -34,8 +34,8 @@ pub put_here : (byte : ℕ) (tails : List (ℕ × ℕ)) (gs start : List TailGro
 put_here byte tails gs start k g h m new begins l a b c others e u =
     let bytes : insert g.bytes byte ≡ new = ap (λ (x : TailGroup). insert x.bytes byte) (one_at gs k g h l a b) ∙ sym (with_single h.bytes byte) ∙ sym u in
     let same : g.tails ≡ m.tails = ap (λ (x : TailGroup). x.tails) (one_at gs k g m l a c) in
-    subst (λ (xs : List TailGroup). IsPut byte tails xs (set gs k (record { bytes = new; tails = m.tails }))) begins
-    (subst (λ (x : TailGroup). IsPut byte tails gs (set gs k x)) (grouped_is bytes same) (put_at byte tails gs k g l (sym a) others e))
+    rw (← begins)
+    (rw (← grouped_is bytes same) (put_at byte tails gs k g l (sym a) others e))
   where
     grouped_is : {s t : FinSet nat_cmp} {r q : List (ℕ × ℕ)} → s ≡ t → r ≡ q → ◌≡◌ {A = TailGroup} (record { bytes = s; tails = r }) (record { bytes = t; tails = q })
     grouped_is p q = λ i. record { bytes = p i; tails = q i }
@@ -54,5 +54,5 @@ pub put_behind : (byte : ℕ) (tails : List (ℕ × ℕ)) (gs start new : List T
     → new ≡ gs ++ record { bytes = bytes; tails = tails } ∷ [] → IsPut byte tails start new
 put_behind byte tails gs start new k bytes begins l others b e =
     let p : IsPut byte tails gs (gs ++ record { bytes = bytes; tails = tails } ∷ []) =
-    subst (λ (s : FinSet nat_cmp). IsPut byte tails gs (gs ++ record { bytes = s; tails = tails } ∷ [])) (sym b) (put_end byte tails gs (λ j d m. others j d (omega arith))) in
-    subst (λ (xs : List TailGroup). IsPut byte tails xs new) begins (subst (IsPut byte tails gs) (sym e) p)
+    rw b (put_end byte tails gs (λ j d m. others j d (omega arith))) in
+    rw (← begins) (subst (IsPut byte tails gs) (sym e) p)

@@ -46,19 +46,19 @@ next_start ranges k h l =
     let one : drop k ranges ≡ get_or ranges k (0, 0) ∷ drop (k + 1) ranges = drop_more ranges k (0, 0) (omega arith) in
     let two : drop (k + 1) ranges ≡ get_or ranges (k + 1) (0, 0) ∷ drop (k + 1 + 1) ranges = drop_more ranges (k + 1) (0, 0) l in
     let a : AreApart (get_or ranges k (0, 0) ∷ (get_or ranges (k + 1) (0, 0) ∷ drop (k + 1 + 1) ranges)) =
-    subst (λ (xs : Ranges). AreApart (get_or ranges k (0, 0) ∷ xs)) two (subst AreApart one (apart_drop ranges k h)) in a.1.0
+    rw two at (subst AreApart one (apart_drop ranges k h)) in a.1.0
 
 pub covers_rest : (ranges : Ranges) (k q : ℕ) → k < length ranges → Covers (drop k ranges) q ↔ (IsWithin (get_or ranges k (0, 0)) q ⊎ Covers (drop (k + 1) ranges) q)
-covers_rest ranges k q l = subst (λ (xs : Ranges). Covers xs q ↔ (IsWithin (get_or ranges k (0, 0)) q ⊎ Covers (drop (k + 1) ranges) q)) (sym (drop_more ranges k (0, 0) l)) (λ h. h, λ h. h)
+covers_rest ranges k q l = rw (drop_more ranges k (0, 0) l) (λ h. h, λ h. h)
 
 pub none_left : (ranges : Ranges) (k q : ℕ) → length ranges ≤ k → Covers (drop k ranges) q → ⊥
-none_left ranges k q l h = subst (λ (xs : Ranges). Covers xs q) (drop_of_length-le ranges l) h
+none_left ranges k q l h = rw (drop_of_length-le ranges l) at h
 
 -- a number below the range at a place is in no range from there on
 pub past_start : (ranges : Ranges) (k q : ℕ) → AreApart ranges → k < length ranges → Covers (drop k ranges) q → (get_or ranges k (0, 0)).0 ≤ q
 past_start ranges k q h l c =
     let e = drop_more ranges k (0, 0) l in
-    covers_past (get_or ranges k (0, 0)) (drop (k + 1) ranges) q (subst AreApart e (apart_drop ranges k h)) (subst (λ (xs : Ranges). Covers xs q) e c)
+    covers_past (get_or ranges k (0, 0)) (drop (k + 1) ranges) q (subst AreApart e (apart_drop ranges k h)) (rw e at c)
 
 -- the characters below `next` that are in no range are in the set, and the ranges that are left begin at `next` or later
 pub record Gaps (ranges set : Ranges) (k next : ℕ) : Type 0 where

@@ -24,7 +24,7 @@ pub shifted_more : (base : ℕ) (ranges : Ranges) (bytes new : FinSet nat_cmp) (
     → new ≡ union bytes (bytes_between lo hi) → AreShifted base ranges bytes k → AreShifted base ranges new (k + 1)
 shifted_more base ranges bytes new k lo hi l el eh e old b =
     let change : IsByteIn new b ↔ (IsByteIn bytes b ⊎ IsByteIn (bytes_between lo hi) b) =
-    subst (λ (s : FinSet nat_cmp). IsByteIn s b ↔ (IsByteIn bytes b ⊎ IsByteIn (bytes_between lo hi) b)) (sym e) (in_either bytes (bytes_between lo hi) b) in (
+    rw e (in_either bytes (bytes_between lo hi) b) in (
       λ s. elim s [
         | inl h ↦ elim (change.0 h) [
           | inl x ↦ (old b).0 (inl x)

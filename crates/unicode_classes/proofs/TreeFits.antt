@@ -28,7 +28,7 @@ module _ {X : Type 0} (tree : X → Tree) (A : X → Strings) where
       fits_same (alt (tree g) (alt_all (map tree gs))) (IsEither (A g) (λ w. (h : X) × Has gs h × A h w)) (λ w. (h : X) × Has (g ∷ gs) h × A h w)
       (λ w. (
         λ s. elim s [ inl a ↦ (g, inl refl, a) | inr r ↦ (r.0, inr r.1, r.2) ],
-        λ r. elim r.1 [ inl e ↦ inl (subst (λ (h : X). A h w) (sym e) r.2) | inr h ↦ inr (r.0, h, r.2) ],
+        λ r. elim r.1 [ inl e ↦ inl (rw e r.2) | inr h ↦ inr (r.0, h, r.2) ],
       ))
       (fits_either (tree g) (alt_all (map tree gs)) (A g) (λ w. (h : X) × Has gs h × A h w) (each g (inl refl)) (fits_each gs (λ h k. each h (inr k))))
 
@@ -59,11 +59,11 @@ in_a_group n W groups long are (b ∷ w) = (
 )
 
 pub tree_fits : (n : ℕ) (W : Strings) (f : Tree) → ((w : List ℕ) → W w → length w ≡ suc n) → IsTreeOf n W f → FitsTexts f W
-tree_fits zero W f long t = subst (λ (f : Tree). FitsTexts f W) (sym t.2) (fits_same (one t.0) (IsByteOf t.0) W (one_byte W t.0 long t.1) (fits_one t.0))
+tree_fits zero W f long t = rw t.2 (fits_same (one t.0) (IsByteOf t.0) W (one_byte W t.0 long t.1) (fits_one t.0))
 tree_fits (suc n) W f long t =
     let groups = t.0 in
     let are = t.1 in
-    subst (λ (f : Tree). FitsTexts f W) (sym t.2) (fits_alternation (map group_tree groups) W
+    rw t.2 (fits_alternation (map group_tree groups) W
     (fits_same (alt_all (map group_tree groups)) (λ w. (g : Group) × Has groups g × IsGroupText W g w) W (in_a_group n W groups long are)
     (fits_each group_tree (IsGroupText W) groups (λ g h.
     let b = are.least g h in
@@ -76,14 +76,14 @@ arms_fit ranges _ arms (no_text {n} {ns} none rest) =
     fits_same (alt_all arms) (λ w. (k : ℕ) × Has ns k × IsLongText ranges k w) (λ w. (k : ℕ) × Has (n ∷ ns) k × IsLongText ranges k w)
     (λ w. (
       λ r. (r.0, inr r.1, r.2),
-      λ r. elim r.1 [ inl e ↦ absurd (none w (subst (λ (k : ℕ). IsLongText ranges k w) (sym e) r.2)) | inr h ↦ (r.0, h, r.2) ],
+      λ r. elim r.1 [ inl e ↦ absurd (none w (rw e r.2)) | inr h ↦ (r.0, h, r.2) ],
     ))
     (arms_fit ranges ns arms rest)
 arms_fit ranges _ _ (some_text {n} {ns} {f} {arms} u is tree rest) =
     fits_same (alt f (alt_all arms)) (IsEither (IsLongText ranges n) (λ w. (k : ℕ) × Has ns k × IsLongText ranges k w)) (λ w. (k : ℕ) × Has (n ∷ ns) k × IsLongText ranges k w)
     (λ w. (
       λ s. elim s [ inl a ↦ (n, inl refl, a) | inr r ↦ (r.0, inr r.1, r.2) ],
-      λ r. elim r.1 [ inl e ↦ inl (subst (λ (k : ℕ). IsLongText ranges k w) (sym e) r.2) | inr h ↦ inr (r.0, h, r.2) ],
+      λ r. elim r.1 [ inl e ↦ inl (rw e r.2) | inr h ↦ inr (r.0, h, r.2) ],
     ))
     (fits_either f (alt_all arms) (IsLongText ranges n) (λ w. (k : ℕ) × Has ns k × IsLongText ranges k w) (tree_fits n (IsLongText ranges n) f (λ w h. h.1) tree) (arms_fit ranges ns arms rest))
 
@@ -110,7 +110,7 @@ has_length c =
 
 pub class_tree_fits : (ranges : List (ℕ × ℕ)) (f : Tree) → IsClassTree ranges f → FitsTexts f (IsText ranges)
 class_tree_fits ranges f t =
-    subst (λ (f : Tree). FitsTexts f (IsText ranges)) (sym t.2) (fits_alternation t.0 (IsText ranges)
+    rw t.2 (fits_alternation t.0 (IsText ranges)
     (fits_same (alt_all t.0) (λ w. (n : ℕ) × Has the_lengths n × IsLongText ranges n w) (IsText ranges)
     (λ w. (
       λ r. r.2.0,

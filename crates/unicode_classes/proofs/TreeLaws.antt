@@ -55,7 +55,7 @@ AreTrees tails (g ∷ gs) (h ∷ hs) = (h.bytes ≡ g.bytes) × IsTreeOf tails (
 
 pub trees_push : (tails : ℕ) (gs : List TailGroup) (hs : List Group) (g : TailGroup) (h : Group) → AreTrees tails gs hs → h.bytes ≡ g.bytes → IsTreeOf tails (IsBlockText 128 tails g.tails) h.tails
     → AreTrees tails (gs ++ g ∷ []) (hs ++ h ∷ [])
-trees_push tails [] hs g h are e t = subst (λ (xs : List Group). AreTrees tails (g ∷ []) (xs ++ h ∷ [])) (sym are) (e, t, refl)
+trees_push tails [] hs g h are e t = rw are (e, t, refl)
 trees_push tails (x ∷ gs) [] g h are e t = absurd are
 trees_push tails (x ∷ gs) (y ∷ hs) g h are e t = (are.0, are.1, trees_push tails gs hs g h are.2 e t)
 
@@ -65,15 +65,15 @@ tree_for : (tails : ℕ) (gs : List TailGroup) (hs : List Group) → AreTrees ta
 tree_for tails [] hs are g k = absurd k
 tree_for tails (x ∷ gs) [] are g k = absurd are
 tree_for tails (x ∷ gs) (y ∷ hs) are g (inl e) =
-    subst (λ (z : TailGroup). (h : Group) × Has (y ∷ hs) h × (h.bytes ≡ z.bytes) × IsTreeOf tails (IsBlockText 128 tails z.tails) h.tails) e (y, inl refl, are.0, are.1)
+    rw (← e) (y, inl refl, are.0, are.1)
 tree_for tails (x ∷ gs) (y ∷ hs) are g (inr k) = (let r = tree_for tails gs hs are.2 g k in (r.0, inr r.1, r.2, r.3))
 
 group_for : (tails : ℕ) (gs : List TailGroup) (hs : List Group) → AreTrees tails gs hs → (h : Group) → Has hs h →
     (g : TailGroup) × Has gs g × (h.bytes ≡ g.bytes) × IsTreeOf tails (IsBlockText 128 tails g.tails) h.tails
-group_for tails [] hs are h k = absurd (subst (λ (xs : List Group). Has xs h) are k)
+group_for tails [] hs are h k = absurd (rw are at k)
 group_for tails (x ∷ gs) [] are h k = absurd are
 group_for tails (x ∷ gs) (y ∷ hs) are h (inl e) =
-    subst (λ (z : Group). (g : TailGroup) × Has (x ∷ gs) g × (z.bytes ≡ g.bytes) × IsTreeOf tails (IsBlockText 128 tails g.tails) z.tails) e (x, inl refl, are.0, are.1)
+    rw (← e) (x, inl refl, are.0, are.1)
 group_for tails (x ∷ gs) (y ∷ hs) are h (inr k) = (let r = group_for tails gs hs are.2 h k in (r.0, inr r.1, r.2, r.3))
 
 trees_after : (tails : ℕ) (g : TailGroup) (h : Group) (gs : List TailGroup) (hs : List Group) → h.bytes ≡ g.bytes → AreTrees tails gs hs →
@@ -81,7 +81,7 @@ trees_after : (tails : ℕ) (g : TailGroup) (h : Group) (gs : List TailGroup) (h
 trees_after tails g h [] hs e are all = subst (AllByRecursion (BeginsBelow h)) (sym are) tt
 trees_after tails g h (x ∷ gs) [] e are all = absurd are
 trees_after tails g h (x ∷ gs) (y ∷ hs) e are all = (
-  λ b c p q. all.0 b c (subst (λ (s : FinSet nat_cmp). IsLeastIn s b) e p) (subst (λ (s : FinSet nat_cmp). IsLeastIn s c) are.0 q),
+  λ b c p q. all.0 b c (rw (← e) p) (rw (← are.0) q),
   trees_after tails g h gs hs e are.2 all.1,
 )
 
@@ -94,8 +94,8 @@ trees_ascend tails (g ∷ gs) (h ∷ hs) are order = (trees_after tails g h gs h
 in_order : {X : Type 0} (Before : X → X → Type 0) (xs : List X) → IsInOrder Before xs → (x y : X) → Has xs x → Has xs y → (x ≡ y) ⊎ (Before x y ⊎ Before y x)
 in_order Before [] order x y h k = absurd h
 in_order Before (z ∷ zs) order x y (inl e) (inl f) = inl (sym e ∙ f)
-in_order {X} Before (z ∷ zs) order x y (inl e) (inr k) = inr (inl (subst (λ (u : X). Before u y) e (all_has (Before z) zs y order.0 k)))
-in_order {X} Before (z ∷ zs) order x y (inr h) (inl f) = inr (inr (subst (λ (u : X). Before u x) f (all_has (Before z) zs x order.0 h)))
+in_order {X} Before (z ∷ zs) order x y (inl e) (inr k) = inr (inl (rw (← e) (all_has (Before z) zs y order.0 k)))
+in_order {X} Before (z ∷ zs) order x y (inr h) (inl f) = inr (inr (rw (← f) (all_has (Before z) zs x order.0 h)))
 in_order Before (z ∷ zs) order x y (inr h) (inr k) = in_order Before zs order.1 x y h k
 
 module _ (base tails : ℕ) (ranges : Ranges) (gs : List TailGroup) (few : (v : ℕ) → Covers ranges v → v < 64 * 64 ^ suc tails) (are : AreGrouped base (64 ^ suc tails) ranges 64 gs) where
@@ -159,23 +159,23 @@ module _ (base tails : ℕ) (ranges : Ranges) (gs : List TailGroup) (few : (v : 
           λ x. (tails_of g b k is w).1 ((same w).1 ((tails_of h.0 c h.1 h.2 w).0 x)),
           λ x. (tails_of h.0 c h.1 h.2 w).1 ((same w).0 ((tails_of g b k is w).0 x)),
         )) in
-        subst (λ (x : TailGroup). IsByteIn x.bytes c) e h.2,
+        rw (← e) h.2,
   )
 
   pub groups_tree : (hs : List Group) → AreTrees tails gs hs → IsTreeOf (suc tails) (IsBlockText base (suc tails) ranges) (alternation (map group_tree hs))
   groups_tree hs trees = (
     hs,
     record {
-      each = λ b h. (let g = begins_in b h in let t = tree_for tails gs hs trees g.0 g.1 in (t.0, t.1, subst (λ (s : FinSet nat_cmp). IsByteIn s b) (sym t.2) g.2));
-      least = λ h k. (let g = group_for tails gs hs trees h k in let b = are.least g.0 g.1 in (b.0, subst (λ (s : FinSet nat_cmp). IsLeastIn s b.0) (sym g.2) b.1));
-      first = λ h b k is. (let g = group_for tails gs hs trees h k in begins_from g.0 b g.1 (subst (λ (s : FinSet nat_cmp). IsByteIn s b) g.2 is));
+      each = λ b h. (let g = begins_in b h in let t = tree_for tails gs hs trees g.0 g.1 in (t.0, t.1, rw (← t.2) at g.2));
+      least = λ h k. (let g = group_for tails gs hs trees h k in let b = are.least g.0 g.1 in (b.0, rw (← g.2) at b.1));
+      first = λ h b k is. (let g = group_for tails gs hs trees h k in begins_from g.0 b g.1 (rw g.2 at is));
       same = λ h b c k is.
           let g = group_for tails gs hs trees h k in
-          let s = group_same g.0 b c g.1 (subst (λ (s : FinSet nat_cmp). IsByteIn s b) g.2 is) in
-          (λ there. s.0 (subst (λ (s : FinSet nat_cmp). IsByteIn s c) g.2 there), λ x. subst (λ (s : FinSet nat_cmp). IsByteIn s c) (sym g.2) (s.1 x));
+          let s = group_same g.0 b c g.1 (rw g.2 at is) in
+          (λ there. s.0 (rw g.2 at there), λ x. rw (← g.2) at (s.1 x));
       tails = λ h b k is.
           let g = group_for tails gs hs trees h k in
-          tree_same tails (IsBlockText 128 tails g.0.tails) (TailsOf (IsBlockText base (suc tails) ranges) b) h.tails (tails_of g.0 b g.1 (subst (λ (s : FinSet nat_cmp). IsByteIn s b) g.2 is)) g.3;
+          tree_same tails (IsBlockText 128 tails g.0.tails) (TailsOf (IsBlockText base (suc tails) ranges) b) h.tails (tails_of g.0 b g.1 (rw g.2 at is)) g.3;
       ascending = trees_ascend tails gs hs trees are.ascending;
     },
     refl,
@@ -196,7 +196,7 @@ arms_more tails gs k g arms new rest both l is tree b e old =
     let pushed : AreTrees tails (take k gs ++ g ∷ []) (old.0 ++ h ∷ []) = trees_push tails (take k gs) old.0 g h old.1 refl tree in
     let trees : map group_tree (old.0 ++ h ∷ []) ≡ map group_tree old.0 ++ group_tree h ∷ [] = map-append group_tree old.0 (h ∷ []) in (
       old.0 ++ h ∷ [],
-      subst (λ (xs : List TailGroup). AreTrees tails xs (old.0 ++ h ∷ [])) (sym more) pushed,
+      rw more pushed,
       e ∙
           ap (λ (x : Tree). arms ++ x ∷ []) b ∙ ap (λ (xs : List Tree). xs ++ group_tree h ∷ []) old.2 ∙ sym trees,
     )
@@ -209,8 +209,8 @@ arms_end base zero unit ranges gs k arms f some u few are l e old = absurd (some
 arms_end base (suc tails) unit ranges gs k arms f some u few are l e old =
     let one : suc tails - 1 ≡ tails = omega arith in
     let whole : take k gs ≡ gs = take_all k gs l in
-    let trees : AreTrees tails gs old.0 = subst (λ (n : ℕ). AreTrees n gs old.0) one (subst (λ (xs : List TailGroup). AreTrees (suc tails - 1) xs old.0) whole old.1) in
-    let t = groups_tree base tails ranges gs few (subst (λ (n : ℕ). AreGrouped base n ranges 64 gs) u are) old.0 trees in
+    let trees : AreTrees tails gs old.0 = rw (← one) (rw (← whole) old.1) in
+    let t = groups_tree base tails ranges gs few (rw (← u) are) old.0 trees in
     subst (IsTreeOf (suc tails) (IsBlockText base (suc tails) ranges)) (sym (e ∙ ap alternation old.2)) t
 
 -- the tails of a group are numbers of one digit less
@@ -222,7 +222,7 @@ tails_few base (suc tails) unit ranges gs g some u are k =
     let h = are.holds g b.0 k b.1.0 in
     let one : suc tails - 1 ≡ tails = omega arith in
     let below : (v : ℕ) → Covers g.tails v → v < 64 * 64 ^ tails = λ v c. (let p = (h.3 v).0 c in omega (arith, p.2, u, unit_more tails)) in
-    subst (λ (n : ℕ). ((v : ℕ) → Covers g.tails v → v < 64 * 64 ^ n) × ((v : ℕ) → Covers g.tails v → 128 + v / 64 ^ n < 256)) (sym one)
+    rw one
     (below, λ v c. omega (arith, digit_below (64 ^ tails) v (unit_positive tails) (below v c)))
 
 -- the tree of strings of one byte

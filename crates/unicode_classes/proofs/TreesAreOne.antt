@@ -23,7 +23,7 @@ module _ {X : Type 0} (Before : X → X → Type 0) where
   ordered_part : (x y : X) (xs ys : List X) → IsInOrder Before (x ∷ xs) → ((z : X) → Has (x ∷ xs) z → Before z z → ⊥) → x ≡ y →
       ((z : X) → Has (x ∷ xs) z → Has (y ∷ ys) z) → (z : X) → Has xs z → Has ys z
   ordered_part x y xs ys order never e all z h = elim (all z (inr h)) [
-    | inl f ↦ absurd (never z (inr h) (subst (λ (u : X). Before u z) (e ∙ f) (all_has (Before x) xs z order.0 h)))
+    | inl f ↦ absurd (never z (inr h) (rw (e ∙ f) at (all_has (Before x) xs z order.0 h)))
     | inr k ↦ k
   ]
 

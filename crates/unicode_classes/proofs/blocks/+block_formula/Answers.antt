@@ -31,14 +31,14 @@ block_formula-requires t c =
     let are = subst (AreGrouped c.args.base c.unit_of.result c.args.ranges.now 64) (sym c.deref-group-items.ensures.value) c.in_ok-groups.ensures in
     let has : Has gs g = subst (Has gs) (sym c.group-item.is) (Has-get_or gs c.loop-group.group-index g c.loop-group-test.true) in
     let few = tails_few c.args.base tails c.unit_of.result c.args.ranges.now gs g c.if-tails-eq0.false c.unit_of.ensures are has in
-    let both = subst (λ (rs : Ranges). ((v : ℕ) → Covers rs v → v < 64 * 64 ^ (tails - 1)) × ((v : ℕ) → Covers rs v → 128 + v / 64 ^ (tails - 1) < 256)) (sym c.parts.ensures.value) few in
+    let both = rw (← c.parts.ensures.value) at few in
     (omega (arith, c.decreases, c.if-tails-eq0.false), (omega (arith, c.requires.tails), (subst AreApart (sym c.parts.ensures.value) c.parts.ensures.apart, (λ l. both.0, both.1))))
 
 pub loop-group-preserved : goal.loop-group-preserved
 loop-group-preserved t c =
     let g = c.group-item.result in
     let tails = c.args.tails - 1 in
-    let tree = subst (λ (rs : Ranges). IsTreeOf tails (IsBlockText 128 tails rs) (tree_of c.in_ok-rest.rest)) c.parts.ensures.value c.in_ok-rest.ensures in
+    let tree = rw c.parts.ensures.value at c.in_ok-rest.ensures in
     let both = tree_of-Cat c.in_ok-both.both ∙ ap cat_all c.in_ok-both.ensures ∙ ap (λ (x : Tree). cat x (cat (tree_of c.in_ok-rest.rest) cat_end)) (tree_of-One g.bytes) in
     record {
       proper = c.in_ok-arms.ensures.proper;

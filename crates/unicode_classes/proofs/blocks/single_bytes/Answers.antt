@@ -5,7 +5,7 @@ use Rattle.unicode_classes.proofs.SingleBytes.{AreShifted, shifted_first, shifte
 use Rattle.unicode_classes.proofs.blocks.single_bytes.Goals as goal
 
 pub loop-range-init : goal.loop-range-init
-loop-range-init c = subst (λ (s : FinSet nat_cmp). AreShifted c.args.base c.args.ranges.now s 0) (sym c.empty-bytes.ensures) (shifted_first c.args.base c.args.ranges.now)
+loop-range-init c = rw c.empty-bytes.ensures (shifted_first c.args.base c.args.ranges.now)
 
 pub overflow_cast-lo : goal.overflow_cast-lo
 overflow_cast-lo c = (let h = byte_fits c.args.base c.args.ranges.now c.loop-range.range-index c.requires.apart c.requires.bytes c.loop-range-test.true in omega arith)

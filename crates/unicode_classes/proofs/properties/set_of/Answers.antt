@@ -11,8 +11,8 @@ use Rattle.unicode_classes.proofs.properties.set_of.Goals as goal
 pub loop-range-init : goal.loop-range-init
 loop-range-init c = (
   0,
-  subst (λ (s : Ranges). AreGathered c.deref-range-items.result.now s 0 0) (sym c.new-set.ensures)
-      (subst (λ (xs : Ranges). AreGathered xs [] 0 0) (sym c.deref-range-items.ensures.value) (gathered_first c.in_ok-ranges.ranges.items c.in_ok-ranges.ensures.rising)),
+  rw c.new-set.ensures
+      (rw c.deref-range-items.ensures.value (gathered_first c.in_ok-ranges.ranges.items c.in_ok-ranges.ensures.rising)),
 )
 
 pub push_characters-requires : goal.push_characters-requires
@@ -31,6 +31,6 @@ loop-range-preserved c = (
 pub returns : goal.returns
 returns c =
     let test = λ (n : ℕ). is_between c.args.first c.args.last (run_value c.args.runs.now n) in
-    let exactly = subst (λ (xs : Ranges). HasExactly xs test) (sym c.deref-range-items.ensures.value) c.in_ok-ranges.ensures.members in
-    subst (λ (s : Ranges). (n : ℕ) → Covers s n ↔ (IsScalar n × IsTrue (test n))) (sym c.of.ensures)
+    let exactly = rw (← c.deref-range-items.ensures.value) at c.in_ok-ranges.ensures.members in
+    rw c.of.ensures
     (gathered_end c.deref-range-items.result.now c.loop-range.set c.loop-range.range-index c.loop-range.invariant.0 test c.loop-range-test.false exactly c.loop-range.invariant.1)
