@@ -101,8 +101,8 @@ pub sorted_once : (xs ys zs : List ℕ) → IsPermutation xs ys → IsSorted nat
 sorted_once xs ys zs moved sorted is =
     set_is xs zs
     (subst (IsInOrder ◌<◌) (sym is) (sorted_in_order (dedup eqb ys) (sorted_from_strictly_increasing (dedup eqb ys) (IsStrictlyIncreasing-dedup ys sorted))))
-    (λ x h. Has-Contains xs x (Contains-permutation ys xs x (IsPermutation-sym xs ys moved) (Contains-from_dedup eqb ys x (subst (λ l. Contains l x) is (Contains-Has zs x h)))))
+    (λ x h. Has-Contains xs x (Contains-permutation ys xs x (IsPermutation-sym xs ys moved) (Contains-from_dedup eqb ys x (rw (← is) (Contains-Has zs x h)))))
     (λ x h. Has-Contains zs x (back x h))
   where
     back : (x : ℕ) → Has xs x → Contains zs x
-    back x h = subst (λ l. Contains l x) (sym is) (Contains-dedup_nat ys x (Contains-permutation xs ys x moved (Contains-Has xs x h)))
+    back x h = rw is (Contains-dedup_nat ys x (Contains-permutation xs ys x moved (Contains-Has xs x h)))

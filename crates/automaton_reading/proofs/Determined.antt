@@ -102,7 +102,7 @@ module _ (A : Automaton) where
       (y : Way) × Has A.ways y × Has set y.from × HasByte y.bytes b × (y.marks ≡ e.marks) × (y.to ≡ q)
   edge_way set b e q h k =
       let m = Has-map_cases (reach_with (ways_taken A set b)) (blocks_down (map (λ (y : Way). y.marks) (ways_taken A set b))) e h in
-      let there : Has (reach_with (ways_taken A set b) m.0).to q = subst (λ (r : Reach). Has r.to q) (sym m.2) k in
+      let there : Has (reach_with (ways_taken A set b) m.0).to q = rw (← m.2) at k in
       let y = Has-map_cases (λ (y : Way). y.to) (filter (λ y. nat_eq y.marks m.0) (ways_taken A set b)) q
       (has_set (map (λ (y : Way). y.to) (filter (λ y. nat_eq y.marks m.0) (ways_taken A set b))) q there) in
       let f = filter_cases (λ (y : Way). nat_eq y.marks m.0) (ways_taken A set b) y.0 y.1 in
@@ -179,7 +179,7 @@ module _ (A : Automaton) where
           r.1,
           y.2,
           r.3,
-          (y.0, y.1, refl, y.4 ∙ h.2, (b, behind_head b rest i at, y.3), subst (λ q. Walk A.ways d w (suc i) (length rest) q r.1.state) (sym y.5) r.4),
+          (y.0, y.1, refl, y.4 ∙ h.2, (b, behind_head b rest i at, y.3), rw (← y.5) at r.4),
           r.5 ∙ ap w e,
         )
 

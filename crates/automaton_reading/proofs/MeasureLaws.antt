@@ -67,7 +67,7 @@ put_is_up p (q ∷ qs) u = go (put_is_up p qs u.1) (nat_lt p q) (nat_eq p q) ref
     go rest false true less e = u
     go rest false false less e = (
       λ y h. elim (put_up_cases p qs y h) as (λ _. q < y) [
-        | inl i ↦ subst (λ z. q < z) i (more (cases_order p q))
+        | inl i ↦ rw (← i) (more (cases_order p q))
         | inr j ↦ u.0 y j
       ],
       rest,
@@ -115,7 +115,7 @@ put_is_down p (q ∷ qs) u = go (put_is_down p qs u.1) (nat_lt q p) (nat_eq p q)
     go rest false true less e = u
     go rest false false less e = (
       λ y h. elim (put_down_cases p qs y h) as (λ _. y < q) [
-        | inl i ↦ subst (λ z. z < q) i (fewer (cases_order p q))
+        | inl i ↦ rw (← i) (fewer (cases_order p q))
         | inr j ↦ u.0 y j
       ],
       rest,
@@ -158,7 +158,7 @@ module _ (A : Automaton) (S : List ℕ) (b : ℕ) where
   pub mark_leads : (m : ℕ) → Has Marks m → (q : ℕ) × LeadsTo A S b m q
   mark_leads m h =
       let y = Has-map_cases (λ (y : Way). y.marks) (ways_taken A S b) m (has_block (map (λ (y : Way). y.marks) (ways_taken A S b)) m h) in
-      (y.0.to, subst (λ k. LeadsTo A S b k y.0.to) y.2 (taken_leads y.0 y.1))
+      (y.0.to, rw y.2 at (taken_leads y.0 y.1))
 
   pub leads_mark : (m q : ℕ) → LeadsTo A S b m q → Has Marks m
   leads_mark m q l =
@@ -176,7 +176,7 @@ module _ (A : Automaton) (S : List ℕ) (b : ℕ) where
           let y = Has-map_cases (λ (y : Way). y.to) (filter (λ y. nat_eq y.marks m) (ways_taken A S b)) q
           (has_set (map (λ (y : Way). y.to) (filter (λ y. nat_eq y.marks m) (ways_taken A S b))) q h) in
           let f = filter_cases (λ (y : Way). nat_eq y.marks m) (ways_taken A S b) y.0 y.1 in
-          subst (λ k. LeadsTo A S b k q) (eqb-true y.0.marks m f.1) (subst (λ p. LeadsTo A S b y.0.marks p) y.2 (taken_leads y.0 f.0))
+          rw (eqb-true y.0.marks m f.1) at (rw y.2 at (taken_leads y.0 f.0))
 
       back : LeadsTo A S b m q → Has (Reached m) q
       back l =
@@ -332,7 +332,7 @@ module _ (A B : Automaton) (f g : ℕ → Option ℕ) (e : ℕ → ℕ → ℕ) 
   rest_shadow [] XB s p h = absurd h
   rest_shadow (x ∷ xs) [] s p h = absurd ((s.image x).0 (inl refl)).1
   rest_shadow (x ∷ xs) (y ∷ ys) s p (inl i) =
-      (record { marks = 0; to = y ∷ ys }, inl refl, subst (λ (t : Reach). IsShadow (y ∷ ys) t.to) i s)
+      (record { marks = 0; to = y ∷ ys }, inl refl, rw (← i) s)
   rest_shadow (x ∷ xs) (y ∷ ys) s p (inr h) = absurd h
 
   -- each edge leads to the image of what one leads to
@@ -350,7 +350,7 @@ module _ (A B : Automaton) (f g : ℕ → Option ℕ) (e : ℕ → ℕ → ℕ) 
       let ends : ℕ → Reach = λ m. record { marks = m; to = [] } in
       let m = Has-map_cases ends (Ends A SA) p h in
       let there = (ends_are B SB m.0).1 (((law SB SA s).1 m.0).0 ((ends_are A SA m.0).0 m.1)) in
-      (ends m.0, Has-map ends (Ends B SB) m.0 there, subst (λ (t : Reach). IsShadow [] t.to) m.2 shadow_none)
+      (ends m.0, Has-map ends (Ends B SB) m.0 there, rw (← m.2) shadow_none)
 
   -- ---- sets, place by place
 
@@ -406,7 +406,7 @@ module _ (A B : Automaton) (f g : ℕ → Option ℕ) (e : ℕ → ℕ → ℕ) 
       ap (λ set. let w : LookUp = record { set = set; ask = x.ask } in w) sets ∙ ap (λ a. let w : LookUp = record { set = z.set; ask = a } in w) asks
 
   pub look_up_no_more : (x y : LookUp) → IsLookUpShadow x y → look_up_edges A x ≤ look_up_edges B y
-  look_up_no_more x y s = subst (λ a. length (edges A x.set x.ask) ≤ length (edges B y.set a)) s.asks (edges_no_more y.set x.set s.sets x.ask)
+  look_up_no_more x y s = rw (← s.asks) (edges_no_more y.set x.set s.sets x.ask)
 
   pub look_ups_cover : (BS AS : List (List ℕ)) (asks : List Question) → Covers BS AS → (x : LookUp) → Has (look_ups_asked A AS asks) x →
       (y : LookUp) × Has (look_ups_asked B BS asks) y × IsLookUpShadow x y
