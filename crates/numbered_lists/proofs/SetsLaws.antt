@@ -57,8 +57,8 @@ pub has_with_sets : (sets more : List (List ℕ)) (s : List ℕ) → Has (with_s
 has_with_sets sets [] s h = inl h
 has_with_sets sets (x ∷ more) s h = elim (has_with_sets (with_set sets x) more s h) as (λ _. Has sets s ⊎ Has (x ∷ more) s) [
   | inl k ↦ elim (with_set_cases sets x) as (λ _. Has sets s ⊎ Has (x ∷ more) s) [
-    | inl e ↦ inl (subst (λ zs. Has zs s) e k)
-    | inr e ↦ elim (Has-append_cases sets (x ∷ []) s (subst (λ zs. Has zs s) e k)) as (λ _. Has sets s ⊎ Has (x ∷ more) s) [
+    | inl e ↦ inl (rw (← e) k)
+    | inr e ↦ elim (Has-append_cases sets (x ∷ []) s (rw (← e) k)) as (λ _. Has sets s ⊎ Has (x ∷ more) s) [
       | inl m ↦ inl m
       | inr m ↦ elim m as (λ _. Has sets s ⊎ Has (x ∷ more) s) [ inl f ↦ inr (inl f) | inr f ↦ absurd f ]
     ]
@@ -69,8 +69,8 @@ has_with_sets sets (x ∷ more) s h = elim (has_with_sets (with_set sets x) more
 pub with_sets_stay : (sets more : List (List ℕ)) (s : List ℕ) → Has sets s → Has (with_sets sets more) s
 with_sets_stay sets [] s h = h
 with_sets_stay sets (x ∷ more) s h = with_sets_stay (with_set sets x) more s (elim (with_set_cases sets x) as (λ _. Has (with_set sets x) s) [
-  | inl e ↦ subst (λ zs. Has zs s) (sym e) h
-  | inr e ↦ subst (λ zs. Has zs s) (sym e) (Has-append_left sets (x ∷ []) s h)
+  | inl e ↦ rw e h
+  | inr e ↦ rw e (Has-append_left sets (x ∷ []) s h)
 ])
 
 -- ---- sets that are apart

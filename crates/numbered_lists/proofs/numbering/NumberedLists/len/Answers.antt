@@ -9,4 +9,4 @@ pub returns-clause-apart : goal.returns-clause-apart
 returns-clause-apart c =
     let items : Vec ℕ → List ℕ = λ v. v.items in
     let eq : Vec ℕ → Vec ℕ → Bool = λ x y. bytes_eq x.items y.items in
-    subst (λ (xs : List (List ℕ)). AreDistinct xs) c.self.view_is (lists_apart items eq (λ x y. refl) c.self.inside.index.keys c.as_slice.ensures.unique)
+    rw (← c.self.view_is) (lists_apart items eq (λ x y. refl) c.self.inside.index.keys c.as_slice.ensures.unique)
