@@ -43,17 +43,17 @@ alike_reduces A B whole e =
         idles = λ b a at. ((λ x. (r.idles b a at).0 ((e.idles a).0 x)), (λ x. (e.idles a).1 ((r.idles b a at).1 x)));
       },
     ) in
-    subst (λ (X : Automaton). Reduces X B) same h
+    rw (← same) h
 
 pub remarked_whole : (e : ℕ → ℕ) (A : Automaton) → IsWhole A → IsWhole (remarked e A)
 remarked_whole e A w = record {
   starts = w.starts;
-  froms = λ y h. let r = Has-map_cases (remarked_way e) A.ways y h in subst (λ (y : Way). y.from < A.states) r.2 (w.froms r.0 r.1);
-  tos = λ y h. let r = Has-map_cases (remarked_way e) A.ways y h in subst (λ (y : Way). y.to < A.states) r.2 (w.tos r.0 r.1);
-  stops = λ s h. let r = Has-map_cases (remarked_stop e) A.stops s h in subst (λ (s : Stop). s.state < A.states) r.2 (w.stops r.0 r.1);
+  froms = λ y h. let r = Has-map_cases (remarked_way e) A.ways y h in rw (← r.2) (w.froms r.0 r.1);
+  tos = λ y h. let r = Has-map_cases (remarked_way e) A.ways y h in rw (← r.2) (w.tos r.0 r.1);
+  stops = λ s h. let r = Has-map_cases (remarked_stop e) A.stops s h in rw (← r.2) (w.stops r.0 r.1);
   idles = w.idles;
 }
 
 -- what stands at a place of a list that is another
 pub Has-item : {X : Type 0} (xs ys : List X) (i : ℕ) (x : X) → xs ≡ ys → i < length xs → x ≡ get_or xs i x → Has ys x
-Has-item xs ys i x same within is = subst (λ zs. Has zs x) same (subst (Has xs) (sym is) (Has-get_or xs i x within))
+Has-item xs ys i x same within is = rw (← same) (subst (Has xs) (sym is) (Has-get_or xs i x within))

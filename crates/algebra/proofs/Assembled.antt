@@ -18,11 +18,11 @@ use Rattle.algebra.proofs.Searched.{row_has}
 pub one_start_more : (old starts new : List ℕ) (i : ℕ) → ((p : ℕ) → Has starts p ↔ (Has old p ⊎ (p < i))) → new ≡ starts ++ i ∷ [] →
     (p : ℕ) → Has new p ↔ (Has old p ⊎ (p < i + 1))
 one_start_more old starts new i inv is p = (
-  (λ h. elim (Has-append_cases starts (i ∷ []) p (subst (λ zs. Has zs p) is h)) [
+  (λ h. elim (Has-append_cases starts (i ∷ []) p (rw (← is) h)) [
     | inl a ↦ elim ((inv p).0 a) [ inl x ↦ inl x | inr l ↦ inr (omega (arith, l)) ]
     | inr b ↦ elim b as (λ _. Has old p ⊎ (p < i + 1)) [ inl e ↦ inr (omega (arith, e)) | inr n ↦ absurd n ]
   ]),
-  (λ h. subst (λ zs. Has zs p) (sym is) (elim h [
+  (λ h. rw is (elim h [
     | inl x ↦ Has-append_left starts (i ∷ []) p ((inv p).1 (inl x))
     | inr l ↦ elim (compared p i) as (λ _. Has (starts ++ i ∷ []) p) [
       | inl less ↦ Has-append_left starts (i ∷ []) p ((inv p).1 (inr less))
@@ -50,7 +50,7 @@ one_idle_more found idle1 idle2 old idle new i k at inv more p = (
       | inr r ↦ elim r as (λ _. Has idle p ⊎ IsIdleHere i k idle1 idle2 p) [
         | inl e ↦
             let same : y.1.0 ≡ k = some_same y.1.0 k (sym y.1.1 ∙ (ap (slice_get found) e ∙ at)) in
-            inr (e, subst (λ (k : Pair). Has idle1 k.left) same y.1.2, subst (λ (k : Pair). Has idle2 k.right) same y.1.3)
+            inr (e, rw (← same) y.1.2, rw (← same) y.1.3)
         | inr g ↦ absurd (omega (arith, g, y.0))
       ]
     ]
@@ -90,20 +90,20 @@ assembled_made keys slice count n items left right idle1 idle2 G0 G1 G2 G3 same 
   starts = λ p.
       let to : G3.starts ≡ G1.starts = s3.starts ∙ s2.starts in
       let none : G0.starts ≡ [] = ap (λ (g : Automaton). g.starts) is in (
-        (λ h. elim ((starts p).0 (subst (λ zs. Has zs p) to h)) [ inl x ↦ absurd (subst (λ zs. Has zs p) none x) | inr l ↦ l ]),
-        (λ l. subst (λ zs. Has zs p) (sym to) ((starts p).1 (inr l))),
+        (λ h. elim ((starts p).0 (rw to at h)) [ inl x ↦ absurd (rw none at x) | inr l ↦ l ]),
+        (λ l. rw to ((starts p).1 (inr l))),
       );
   ways = s3.ways ∙ (s2.ways ∙ (s1.ways ∙ ap (λ (g : Automaton). g.ways) is));
   stops =
       let all : G3.stops ≡ stops.0 = s3.stops ∙ (stops.1 ∙ ap (λ zs. zs ++ stops.0) (s1.stops ∙ ap (λ (g : Automaton). g.stops) is)) in
-      subst (λ ks. Matched (IsStopAt ks) (flat_map (stops_at_pair left right) ks) G3.stops) same
-      (subst (λ (zs : List Stop). Matched (IsStopAt slice) (flat_map (stops_at_pair left right) slice) zs) (sym all) stops.2);
+      rw (← same)
+      (rw all stops.2);
   idles = λ p.
       let none : G2.idle ≡ [] = s2.idle ∙ (s1.idle ∙ ap (λ (g : Automaton). g.idle) is) in (
         (λ h. elim ((idles p).0 h) [
-          | inl x ↦ absurd (subst (λ zs. Has zs p) none x)
-          | inr y ↦ subst (λ ks. IsIdlePair ks idle1 idle2 p) same y
+          | inl x ↦ absurd (rw none at x)
+          | inr y ↦ rw (← same) y
         ]),
-        (λ h. (idles p).1 (inr (subst (λ ks. IsIdlePair ks idle1 idle2 p) (sym same) h))),
+        (λ h. (idles p).1 (inr (rw same h))),
       );
 }

@@ -79,7 +79,7 @@ followed_then made1 made2 k1 k2 k3 ways1 ways2 ways3 a b = record {
   new = a.new ++ b.new;
   ways = b.ways ∙ (ap (λ w. w ++ b.new) a.ways ∙ append_assoc ways1 a.new b.new);
   between = matched_append (IsWayBetween k3) made1 made2 a.new b.new
-      (matched_more (IsWayBetween k2) (IsWayBetween k3) (λ r y m. subst (λ k. IsWayBetween k r y) (sym b.keys) (between_more k2 b.found r y m)) made1 a.new a.between)
+      (matched_more (IsWayBetween k2) (IsWayBetween k3) (λ r y m. rw b.keys (between_more k2 b.found r y m)) made1 a.new a.between)
       b.between;
   led = λ p l m. elim (cases_lt p (length k2)) [
     | inl less ↦ let y = a.led p l less in (y.0, Has-append_left a.new b.new y.0 y.1, y.2, y.3)
@@ -185,7 +185,7 @@ module _ (there : Bool) (keys : List Pair) (k : Pair) where
       by false = λ x has. elim (Has-append_cases keys (k ∷ []) x has) [
         | inl a ↦ h x a
         | inr b ↦ elim b as (λ _. (x.left < n1) × (x.right < n2)) [
-          | inl e ↦ subst (λ (k : Pair). (k.left < n1) × (k.right < n2)) e (l, r)
+          | inl e ↦ rw (← e) (l, r)
           | inr n ↦ absurd n
         ]
       ]

@@ -23,23 +23,23 @@ module _ {X : Type 0} (s t : X → Bool) (apart : (x : X) → s x ≡ true → t
       go true c e f rest =
           let n : t x ≡ false = apart x e in
           let whole = filter_yes (λ x. s x || t x) x xs (ap (λ b. b || t x) e) in
-          subst (λ (zs : List X). IsPermutation zs (filter s (x ∷ xs) ++ filter t (x ∷ xs))) (sym whole)
-          (subst (λ (zs : List X). IsPermutation (x ∷ filter (λ x. s x || t x) xs) (zs ++ filter t (x ∷ xs))) (sym (filter_yes s x xs e))
-          (subst (λ (zs : List X). IsPermutation (x ∷ filter (λ x. s x || t x) xs) (x ∷ filter s xs ++ zs)) (sym (filter_no t x xs n))
+          rw whole
+          (rw (filter_yes s x xs e)
+          (rw (filter_no t x xs n)
           (IsPermutation-cons x (filter (λ x. s x || t x) xs) (filter s xs ++ filter t xs) rest)))
       go false true e f rest =
           let whole = filter_yes (λ x. s x || t x) x xs (ap (λ b. b || t x) e ∙ f) in
-          subst (λ (zs : List X). IsPermutation zs (filter s (x ∷ xs) ++ filter t (x ∷ xs))) (sym whole)
-          (subst (λ (zs : List X). IsPermutation (x ∷ filter (λ x. s x || t x) xs) (zs ++ filter t (x ∷ xs))) (sym (filter_no s x xs e))
-          (subst (λ (zs : List X). IsPermutation (x ∷ filter (λ x. s x || t x) xs) (filter s xs ++ zs)) (sym (filter_yes t x xs f))
+          rw whole
+          (rw (filter_no s x xs e)
+          (rw (filter_yes t x xs f)
           (IsPermutation-trans (x ∷ filter (λ x. s x || t x) xs) (x ∷ (filter s xs ++ filter t xs)) (filter s xs ++ x ∷ filter t xs)
           (IsPermutation-cons x (filter (λ x. s x || t x) xs) (filter s xs ++ filter t xs) rest)
           (IsPermutation-sym (filter s xs ++ x ∷ filter t xs) (x ∷ (filter s xs ++ filter t xs)) (IsPermutation-middle (filter s xs) x (filter t xs))))))
       go false false e f rest =
           let whole = filter_no (λ x. s x || t x) x xs (ap (λ b. b || t x) e ∙ f) in
-          subst (λ (zs : List X). IsPermutation zs (filter s (x ∷ xs) ++ filter t (x ∷ xs))) (sym whole)
-          (subst (λ (zs : List X). IsPermutation (filter (λ x. s x || t x) xs) (zs ++ filter t (x ∷ xs))) (sym (filter_no s x xs e))
-          (subst (λ (zs : List X). IsPermutation (filter (λ x. s x || t x) xs) (filter s xs ++ zs)) (sym (filter_no t x xs f)) rest))
+          rw whole
+          (rw (filter_no s x xs e)
+          (rw (filter_no t x xs f) rest))
 
 none_pass : {X : Type 0} (xs : List X) → filter (λ x. false) xs ≡ []
 none_pass [] = refl
@@ -150,14 +150,14 @@ module _ {X Y R : Type 0} (at1 : X → ℕ) (at2 : Y → ℕ) (test : X → Y �
   -- what is made at some of the pairs, in their order
   pub gathered : (keys : List Pair) (ys : List Y) (xs : List X) → AreDistinct keys →
       IsPermutation (filter (λ r. one_of keys (at r)) (pairs test make ys xs)) (flat_map (pairs_at at1 at2 test make xs ys) keys)
-  gathered [] ys xs d = subst (λ (zs : List R). IsPermutation zs []) (sym (none_pass (pairs test make ys xs))) (IsPermutation-refl [])
+  gathered [] ys xs d = rw (none_pass (pairs test make ys xs)) (IsPermutation-refl [])
   gathered (k ∷ keys) ys xs d =
       let all = pairs test make ys xs in
       let rest = gathered keys ys xs d.1 in
       let two = parted (made_at k) (λ r. one_of keys (at r)) (λ r e. not_one_of keys (at r) (λ h. d.0 (subst (Has keys) (sym (is_pair_same k (at r) e)) h))) all in
       IsPermutation-trans (filter (λ r. one_of (k ∷ keys) (at r)) all) (filter (made_at k) all ++ filter (λ r. one_of keys (at r)) all)
       (flat_map (pairs_at at1 at2 test make xs ys) (k ∷ keys)) two
-      (subst (λ (zs : List R). IsPermutation (zs ++ filter (λ r. one_of keys (at r)) all) (flat_map (pairs_at at1 at2 test make xs ys) (k ∷ keys))) (sym (at_pair k ys xs))
+      (rw (at_pair k ys xs)
       (IsPermutation-append_right (pairs_at at1 at2 test make xs ys k) (filter (λ r. one_of keys (at r)) all) (flat_map (pairs_at at1 at2 test make xs ys) keys) rest))
 
 -- the rows of images

@@ -31,7 +31,7 @@ pub join_by : (A B : Marked) (all : List VarName) → all ≡ all_names A.names 
     IfOk r (λ (j : Marked). j.names ≡ all) → IfOk r (λ (j : Marked). P j.graph) → IfOk r (IsJoinOf A B)
 join_by A B all is (Ok j) P h g names made = record {
   names = names ∙ is;
-  reduct = subst (λ ns. Reduces j.graph (join_over A B ns)) (sym names) (h j.graph made);
+  reduct = rw names (h j.graph made);
   reached = g j.graph made;
 }
 join_by A B all is (Err e) P h g names made = tt

@@ -73,7 +73,7 @@ module _ {X Y U V R S : Type 0} (test : U → V → Bool) (make : U → V → R)
 pub rows_has : {X : Type 0} (at : X → ℕ) (xs all : List X) → HaveSameRows at xs all → (x : X) → Has xs x → Has all x
 rows_has at xs all same x h =
     let p = at x in
-    (row_has at p all x (subst (λ zs. Has zs x) (same p) (has_filter (λ y. nat_eq (at y) p) xs x h (eq-eqb p p refl)))).0
+    (row_has at p all x (rw (← same p) (has_filter (λ y. nat_eq (at y) p) xs x h (eq-eqb p p refl)))).0
 
 meet_itself : (s : ByteClass) → meet s s ≡ s
 meet_itself s = set.same_set nat_cmp_total set.nat_cmp-IsAntisymmetric (meet s s) s (λ q. set.contains-intersection nat_cmp_total s s q ∙ twice (set.contains s q))
@@ -182,31 +182,31 @@ module _ {A B : Marked} (a : IsMarked A) (b : IsMarked B) (all : List VarName) w
   left_way : (x : HalfWay) → Has X x → (x.way.from < n1) × (x.way.to < n1)
   left_way x h =
       let u = Has-map_cases (half_way own1 shared1) A.graph.ways x h in
-      (subst (λ (x : HalfWay). x.way.from < n1) u.2 (a.whole.froms u.0 u.1), subst (λ (x : HalfWay). x.way.to < n1) u.2 (a.whole.tos u.0 u.1))
+      (rw (← u.2) (a.whole.froms u.0 u.1), rw (← u.2) (a.whole.tos u.0 u.1))
 
   right_way : (y : HalfWay) → Has Y y → (y.way.from < n2) × (y.way.to < n2)
   right_way y h =
       let u = Has-map_cases (half_way own2 shared2) B.graph.ways y h in
-      (subst (λ (x : HalfWay). x.way.from < n2) u.2 (b.whole.froms u.0 u.1), subst (λ (x : HalfWay). x.way.to < n2) u.2 (b.whole.tos u.0 u.1))
+      (rw (← u.2) (b.whole.froms u.0 u.1), rw (← u.2) (b.whole.tos u.0 u.1))
 
   lead_within : LeadWithin n1 n2 R
   lead_within = λ r h.
       let p = way_parts r h in
       let to = ap (λ (r : PairWay). r.to) p.5 in
-      (subst (λ (k : Pair). k.left < n1) to (left_way p.0 p.2).1, subst (λ (k : Pair). k.right < n2) to (right_way p.1 p.3).1)
+      (rw (← to) (left_way p.0 p.2).1, rw (← to) (right_way p.1 p.3).1)
 
   sides : AreSides n1 n2 A.graph.starts B.graph.starts R S A.graph.idle B.graph.idle
   sides = record {
     starts = b.whole.starts;
-    froms = λ r h. let p = way_parts r h in subst (λ (r : PairWay). r.from.right < n2) p.5 (right_way p.1 p.3).0;
+    froms = λ r h. let p = way_parts r h in rw (← p.5) (right_way p.1 p.3).0;
     tos = λ r h. (lead_within r h).1;
     stops_at = λ r h.
         let u = flat_map_cases (λ x. map (stop_pair x) (filter (stops_meet x) SY)) SX r h in
         let v = Has-map_cases (stop_pair u.0) (filter (stops_meet u.0) SY) r u.2 in
         let w = filter_cases (stops_meet u.0) SY v.0 v.1 in
         let z = Has-map_cases (half_stop own2 shared2) B.graph.stops v.0 w.0 in
-        let l : v.0.stop.state < n2 = subst (λ (y : HalfStop). y.stop.state < n2) z.2 (b.whole.stops z.0 z.1) in
-        subst (λ (r : PairStop). r.at.right < n2) v.2 l;
+        let l : v.0.stop.state < n2 = rw (← z.2) (b.whole.stops z.0 z.1) in
+        rw (← v.2) l;
     idles = b.whole.idles;
   }
 
@@ -236,8 +236,8 @@ module _ {A B : Marked} (a : IsMarked A) (b : IsMarked B) (all : List VarName) w
     pub small_marks : length all ≤ MOST_VARIABLES → HaveSmallMarks xs ys
     small_marks few =
         let le = power_le (2 * length all) 64 (omega (arith, few)) in
-        subst (λ (zs : List HalfWay). HaveSmallMarks xs zs) (sym right_ways)
-        (subst (λ (zs : List HalfWay). HaveSmallMarks zs Y) (sym left_ways) (λ x y hx hy. omega (arith, way_marks x y hx hy, le)))
+        rw right_ways
+        (rw left_ways (λ x y hx hy. omega (arith, way_marks x y hx hy, le)))
 
     pub small_stop_marks : (x y : HalfStop) → Has sx x → Has sy y → x.stop.marks + y.stop.marks < 2 ^ (2 * length all)
     small_stop_marks x y hx hy = stop_marks x y (rows_has half_at sx SX left.stops x hx) (rows_has half_at sy SY right.stops y hy)
@@ -253,12 +253,12 @@ module _ {A B : Marked} (a : IsMarked A) (b : IsMarked B) (all : List VarName) w
     refusal : all ≡ all_names A.names B.names → (e : SizeFault) → IsSearchRefusal one two e → IsJoinFault A B (Size e)
     refusal all_are e h =
         let of_both : IsRefusedSearch A.graph B.graph xs ys e =
-        subst (λ (N : Marked). IsRefusedSearch A.graph N.graph xs ys e) right.automaton
-        (subst (λ (M : Marked). IsRefusedSearch M.graph (graph_of two) xs ys e) left.automaton h) in
+        rw (← right.automaton)
+        (rw (← left.automaton) h) in
         let all_ways : IsRefusedSearch A.graph B.graph X Y e =
-        subst (λ (zs : List HalfWay). IsRefusedSearch A.graph B.graph X zs e) right_ways
-        (subst (λ (zs : List HalfWay). IsRefusedSearch A.graph B.graph zs ys e) left_ways of_both) in
-        subst (λ ns. IsSizeFaultWithin (n1 * n2) (length (join_over A B ns).ways) e) all_are
+        rw (← right_ways)
+        (rw (← left_ways) of_both) in
+        rw (← all_are)
         (all_ways (length J.ways) a.whole.starts b.whole.starts lead_within (omega (arith, ways_len)))
 
     pub told_refusal : all ≡ all_names A.names B.names → (f : JoinFault) → IsTold (IsSearchRefusal one two) f → IsJoinFault A B f
@@ -272,8 +272,8 @@ module _ {A B : Marked} (a : IsMarked A) (b : IsMarked B) (all : List VarName) w
 
       started : AreStarted A.graph.starts B.graph.starts [] keys0
       started =
-          subst (λ (N : Marked). AreStarted A.graph.starts N.graph.starts [] keys0) right.automaton
-          (subst (λ (M : Marked). AreStarted M.graph.starts (graph_of two).starts [] keys0) left.automaton s.started)
+          rw (← right.automaton)
+          (rw (← left.automaton) s.started)
 
       rows : flat_map (ways_at xs ys) keys ≡ flat_map (ways_at X Y) keys
       rows = λ i. flat_map (ways_at (left_ways i) (right_ways i)) keys
@@ -285,18 +285,18 @@ module _ {A B : Marked} (a : IsMarked A) (b : IsMarked B) (all : List VarName) w
       starts_within = within_starts keys0 started
 
       in_all : (r : PairWay) → Has (flat_map (ways_at xs ys) keys) r → Has R r
-      in_all r h = gathered_ways keys X Y r s.apart (subst (λ zs. Has zs r) rows h)
+      in_all r h = gathered_ways keys X Y r s.apart (rw (← rows) h)
 
       within : ArePairsWithin n1 n2 keys
       within = s.followed.within n1 n2 starts_within (λ r h. lead_within r (in_all r h))
 
       pub within_sides : ArePairsWithin (graph_of one).states (graph_of two).states keys
       within_sides =
-          subst (λ (N : Marked). ArePairsWithin (graph_of one).states N.graph.states keys) (sym right.automaton)
-          (subst (λ (M : Marked). ArePairsWithin M.graph.states n2 keys) (sym left.automaton) within)
+          rw right.automaton
+          (rw left.automaton within)
 
       between : Matched (IsWayBetween keys) (flat_map (ways_at xs ys) keys) made
-      between = subst (λ (ws : List Way). Matched (IsWayBetween keys) (flat_map (ways_at xs ys) keys) ws) (sym s.followed.ways) s.followed.between
+      between = rw s.followed.ways s.followed.between
 
       ways_fit : (y : Way) → Has made y → IsWayOf (length keys) (length all) y
       ways_fit y h =
@@ -310,7 +310,7 @@ module _ {A B : Marked} (a : IsMarked A) (b : IsMarked B) (all : List VarName) w
           record {
             from = slice_get_within keys y.from m.0.from m.2.from;
             to = slice_get_within keys y.to m.0.to m.2.to;
-            marks = subst (λ v. v < 2 ^ (2 * length all)) marks small;
+            marks = rw (← marks) small;
             bytes = λ e. let f : true ≡ false = sym some ∙ no_bytes (meet p.0.way.bytes p.1.way.bytes) (bytes ∙ e) in absurd (cc);
           }
 
@@ -367,7 +367,7 @@ module _ {A B : Marked} (a : IsMarked A) (b : IsMarked B) (all : List VarName) w
           let r = way_pair x y in
           let here : Has (ways_at X Y k) r = has_flat_map (λ x. map (way_pair x) (filter (ways_meet x) (those_at half_from k.right Y))) (those_at half_from k.left X) x r hx
           (Has-map (way_pair x) (filter (ways_meet x) (those_at half_from k.right Y)) y (has_filter (ways_meet x) (those_at half_from k.right Y) y hy ok)) in
-          let there : Has (flat_map (ways_at xs ys) keys) r = subst (λ zs. Has zs r) (sym rows) (has_flat_map (ways_at X Y) keys k r (Has-slice_get keys p k h.1) here) in
+          let there : Has (flat_map (ways_at xs ys) keys) r = rw rows (has_flat_map (ways_at X Y) keys k r (Has-slice_get keys p k h.1) here) in
           let place = place_of-Has (flat_map (ways_at xs ys) keys) r there in
           let m = match_of (IsWayBetween keys) (flat_map (ways_at xs ys) keys) made place.0 r between place.2 in
           let from : m.0.from ≡ p = one_place k m.0.from p m.2.from h.1 in
@@ -379,15 +379,15 @@ module _ {A B : Marked} (a : IsMarked A) (b : IsMarked B) (all : List VarName) w
       pub idle_in_sides : (p : ℕ) → IsIdlePair keys (graph_of one).idle (graph_of two).idle p → Has made (idle_way p)
       idle_in_sides p h =
           idle_there p
-          (subst (λ (N : Marked). IsIdlePair keys A.graph.idle N.graph.idle p) right.automaton
-          (subst (λ (M : Marked). IsIdlePair keys M.graph.idle (graph_of two).idle p) left.automaton h))
+          (rw (← right.automaton)
+          (rw (← left.automaton) h))
 
       pub starts_few : count ≤ length keys
       starts_few = omega (arith, s.counted, ap length s.followed.keys, length-append s.first s.followed.found)
 
       module _ {C : Automaton} (is : IsMadeOf keys count made sx sy A.graph.idle B.graph.idle C) where
         is0 : IsMadeOf keys (length keys0) made sx sy A.graph.idle B.graph.idle C
-        is0 = subst (λ n. IsMadeOf keys n made sx sy A.graph.idle B.graph.idle C) s.counted is
+        is0 = rw (← s.counted) is
 
         start_place : (i : ℕ) (k : Pair) → slice_get keys i ≡ Some k → (i < length keys0) ↔ (Has A.graph.starts k.left × Has B.graph.starts k.right)
         start_place i k at = (
@@ -410,19 +410,19 @@ module _ {A B : Marked} (a : IsMarked A) (b : IsMarked B) (all : List VarName) w
         of_found = record {
           apart = s.apart;
           states = is.states;
-          started = λ p q h k. subst (λ zs. Has zs (pair_of p q)) (sym s.followed.keys) (Has-append_left keys0 s.followed.found (pair_of p q) (started.all p q h k));
+          started = λ p q h k. rw s.followed.keys (Has-append_left keys0 s.followed.found (pair_of p q) (started.all p q h k));
           starts = λ i k at. let here = start_place i k at in ((λ h. here.0 ((is0.starts i).0 h)), (λ h. (is0.starts i).1 (here.1 h)));
           starts_within = λ i h. omega (arith, (is0.starts i).0 h, fewer);
           ways_are = gathered half_from half_from ways_meet way_pair (λ (r : PairWay). r.from) (λ x y. refl) keys Y X s.apart;
-          ways_match = subst (λ (ws : List Way). Matched (IsWayBetween keys) (flat_map (ways_at X Y) keys) ws) (sym is.ways)
-              (subst (λ (rs : List PairWay). Matched (IsWayBetween keys) rs made) rows between);
+          ways_match = rw is.ways
+              (rw (← rows) between);
           stops_are = gathered half_at half_at stops_meet stop_pair (λ (r : PairStop). r.at) (λ x y. refl) keys SY SX s.apart;
-          stops_match = subst (λ (rs : List PairStop). Matched (IsStopAt keys) rs C.stops) stop_rows is.stops;
+          stops_match = rw (← stop_rows) is.stops;
           idles = λ i k at. (
             (λ h.
                 let r = (is.idles i).0 h in
                 let same : r.0 ≡ k = some_same r.0 k (sym r.1 ∙ at) in
-                (subst (λ (k : Pair). Has A.graph.idle k.left) same r.2, subst (λ (k : Pair). Has B.graph.idle k.right) same r.3)),
+                (rw (← same) r.2, rw (← same) r.3)),
             (λ h. (is.idles i).1 (k, at, h.0, h.1)),
           );
         }
@@ -438,7 +438,7 @@ module _ {A B : Marked} (a : IsMarked A) (b : IsMarked B) (all : List VarName) w
               | inr later ↦
                   let y = s.followed.led p later m in
                   let r = below b y.0.from (omega (arith, l, y.3)) (omega (arith, m, y.3)) in
-                  (suc r.0, (y.0, subst (λ (ws : List Way). Has ws y.0) (sym (is.ways ∙ s.followed.ways)) y.1, r.1, y.2))
+                  (suc r.0, (y.0, rw (is.ways ∙ s.followed.ways) y.1, r.1, y.2))
             ]
 
         join_reduces : Reduces C J
@@ -449,13 +449,13 @@ module _ {A B : Marked} (a : IsMarked A) (b : IsMarked B) (all : List VarName) w
           IfOk r (λ (j : Marked). IsAssembledOf one two keys count made j.graph) → IfOk r (IsJoinOf A B)
       join_made all_are r names is =
           join_by A B all all_are r (λ C. IsMadeOf keys count made sx sy A.graph.idle B.graph.idle C) (λ C is. join_reduces is) (λ C is. reached is) names
-          (subst (λ (N : Marked). IfOk r (λ (j : Marked). IsMadeOf keys count made sx sy A.graph.idle N.graph.idle j.graph)) right.automaton
-          (subst (λ (M : Marked). IfOk r (λ (j : Marked). IsMadeOf keys count made sx sy M.graph.idle (graph_of two).idle j.graph)) left.automaton is))
+          (rw (← right.automaton)
+          (rw (← left.automaton) is))
 
       pub fault_made : all ≡ all_names A.names B.names → (r : Result Marked JoinFault) →
           IfErr r (IsJoinFaultWithin (length keys) (length made) (length (flat_map (stops_at_pair sx sy) keys))) → IfErr r (IsJoinFault A B)
       fault_made all_are r h =
           let ends = length (flat_map (stops_at_pair sx sy) keys) in
           IfErr-weaker r (IsJoinFaultWithin (length keys) (length made) ends) (IsJoinFault A B)
-          (λ e f. subst (λ ns. IsJoinFaultWithin (n1 * n2) (length (join_over A B ns).ways) (length (join_over A B ns).stops) e) all_are
+          (λ e f. rw (← all_are)
           (faults_more (length keys) (n1 * n2) (length made) (length J.ways) ends (length J.stops) e keys_few made_few stops_few f)) h

@@ -79,7 +79,7 @@ module _ (agree : ℕ → ℕ → Bool) (both : ℕ → ℕ → ℕ) (A B : Auto
       let v_later : (r : ℕ) → suc i ≤ r → r < suc i + n → rest.1 r ≡ v r = λ r a b. sym (put_apart rest.1 i y.1.marks r (λ e. omega (arith, e, a))) in
       let u_here : u i ≡ y.0.marks = put_here rest.0 i y.0.marks in
       let v_here : v i ≡ y.1.marks = put_here rest.1 i y.1.marks in
-      let byte : ReadsByte d i (meet y.0.bytes y.1.bytes) = subst (λ (g : Way). ReadsByte d i g.bytes) (sym y.5) h.4 in (
+      let byte : ReadsByte d i (meet y.0.bytes y.1.bytes) = rw (← y.5) at h.4 in (
         u,
         v,
         rest.2,
@@ -164,8 +164,7 @@ module _ (agree : ℕ → ℕ → Bool) (both : ℕ → ℕ → ℕ) (A B : Auto
           x.0,
           s.1,
           x.1,
-          subst (λ q. Walk A.ways d u 0 (length d) s.0 q) (sym same.0)
-              (walk_same A.ways d r.0 u (length d) 0 s.0 r.2 (λ p lo up. u_before p (omega (arith, up))) r.4),
+          rw (← same.0) at (walk_same A.ways d r.0 u (length d) 0 s.0 r.2 (λ p lo up. u_before p (omega (arith, up))) r.4),
           sym u_here,
         ),
         (
@@ -173,8 +172,7 @@ module _ (agree : ℕ → ℕ → Bool) (both : ℕ → ℕ → ℕ) (A B : Auto
           y.0,
           t.1,
           z.0,
-          subst (λ q. Walk B.ways d v 0 (length d) t.0 q) (sym same.1)
-              (walk_same B.ways d r.1 v (length d) 0 t.0 r.3 (λ p lo up. v_before p (omega (arith, up))) r.5),
+          rw (← same.1) at (walk_same B.ways d r.1 v (length d) 0 t.0 r.3 (λ p lo up. v_before p (omega (arith, up))) r.5),
           sym v_here,
         ),
         λ p l. elim (compared p (length d)) [

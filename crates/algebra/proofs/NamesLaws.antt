@@ -60,7 +60,7 @@ all_keep names (y ∷ more) x h = all_keep (with_name y names) more x (with_ther
 
 all_there : (names more : List VarName) (x : VarName) → Has more x → Has (all_names names more) x
 all_there names [] x h = absurd h
-all_there names (y ∷ more) x (inl e) = all_keep (with_name y names) more x (subst (λ z. Has (with_name y names) z) e (with_here y names))
+all_there names (y ∷ more) x (inl e) = all_keep (with_name y names) more x (rw (← e) (with_here y names))
 all_there names (y ∷ more) x (inr h) = all_there (with_name y names) more x h
 
 all_cases : (names more : List VarName) (x : VarName) → Has (all_names names more) x → Has names x ⊎ Has more x

@@ -205,12 +205,12 @@ find_is (s ∷ ss) a b h e = go (nat_eq s.one a && nat_eq s.two b) refl h (find_
         let z : 0 ≡ h = some_same 0 h e in
         let p : s.one ≡ a = eqb-true s.one a (left_true (nat_eq s.one a) (nat_eq s.two b) at) in
         let q : s.two ≡ b = eqb-true s.two b (right_true (nat_eq s.one a) (nat_eq s.two b) at) in
-        subst (λ h. slice_get (s ∷ ss) h ≡ Some (record { one = a; two = b })) z (λ i. Some (record { one = p i; two = q i }))
+        rw (← z) (λ i. Some (record { one = p i; two = q i }))
     go false at h rest e = later (find_spot ss a b) refl e
       where
         later : (o : Option ℕ) → find_spot ss a b ≡ o → option_map suc o ≡ Some h → slice_get (s ∷ ss) h ≡ Some (record { one = a; two = b })
         later None f e = absurd (cc)
-        later (Some g) f e = subst (λ h. slice_get (s ∷ ss) h ≡ Some (record { one = a; two = b })) (some_same (suc g) h e) (rest g f)
+        later (Some g) f e = rw (← some_same (suc g) h e) (rest g f)
 
 pub find_there : (ss : List Spot) (k a b : ℕ) → slice_get ss k ≡ Some (record { one = a; two = b }) → (h : ℕ) × (find_spot ss a b ≡ Some h)
 find_there [] k a b e = absurd (cc)

@@ -25,11 +25,11 @@ place_is (x ∷ keys) k a e = go (is_pair x k) refl a (place_is keys k) e
   where
     later : (o : Option ℕ) (a : ℕ) → place_in keys k ≡ o → ((a : ℕ) → place_in keys k ≡ Some a → slice_get keys a ≡ Some k) → option_map suc o ≡ Some a → slice_get (x ∷ keys) a ≡ Some k
     later None a f rest e = absurd (cc)
-    later (Some g) a f rest e = subst (λ h. slice_get (x ∷ keys) h ≡ Some k) (some_same (suc g) a e) (rest g f)
+    later (Some g) a f rest e = rw (← some_same (suc g) a e) (rest g f)
 
     go : (c : Bool) → is_pair x k ≡ c → (a : ℕ) → ((a : ℕ) → place_in keys k ≡ Some a → slice_get keys a ≡ Some k) →
         (if c then Some 0 else option_map suc (place_in keys k)) ≡ Some a → slice_get (x ∷ keys) a ≡ Some k
-    go true at a rest e = subst (λ h. slice_get (x ∷ keys) h ≡ Some k) (some_same 0 a e) (ap Some (is_pair_same x k at))
+    go true at a rest e = rw (← some_same 0 a e) (ap Some (is_pair_same x k at))
     go false at a rest e = later (place_in keys k) a refl rest e
 
 pub place_there : (keys : List Pair) (k : Pair) (a : ℕ) → AreDistinct keys → slice_get keys a ≡ Some k → place_in keys k ≡ Some a
@@ -46,7 +46,7 @@ module _ {X Y : Type 0} (P : X → Y → Type 0) where
   pub match_of : (xs : List X) (ys : List Y) (k : ℕ) (x : X) → Matched P xs ys → slice_get xs k ≡ Some x → (y : Y) × (slice_get ys k ≡ Some y) × P x y
   match_of [] ys k x m e = absurd (cc)
   match_of (z ∷ xs) [] k x m e = absurd m
-  match_of (z ∷ xs) (y ∷ ys) zero x m e = (y, refl, subst (λ x. P x y) (some_same z x e) m.0)
+  match_of (z ∷ xs) (y ∷ ys) zero x m e = (y, refl, rw (← some_same z x e) m.0)
   match_of (z ∷ xs) (y ∷ ys) (suc k) x m e = match_of xs ys k x m.1 e
 
   pub match_from : (xs : List X) (ys : List Y) (k : ℕ) (y : Y) → Matched P xs ys → slice_get ys k ≡ Some y → (x : X) × (slice_get xs k ≡ Some x) × P x y
@@ -89,7 +89,7 @@ module _ {R : Type 0} (at : R → Pair) (keys : List Pair) (all made : List R) (
   some = filter_map keep all
 
   placing : (g : ℕ → ℕ) × IsPlaced some made g
-  placing = permutation_placed some made (subst (λ (zs : List R). IsPermutation zs made) (sym (filter_is test all)) perm)
+  placing = permutation_placed some made (rw (filter_is test all) perm)
 
   kept_is : (r : R) → Has keys (at r) → keep r ≡ Some r
   kept_is r h = ap (λ b. if b then Some r else None) (has_one_of keys (at r) h)
@@ -128,7 +128,7 @@ module _ {R : Type 0} (at : R → Pair) (keys : List Pair) (all made : List R) (
       go (Some i) f h =
           let x = kept_told keep all k r i e f in
           let s = kept_has r x.0 x.1 in
-          (s.0, subst (λ j. slice_get made j ≡ Some r) (some_same (placing.0 i) j h) (placing.1.there i r (x.2 ∙ ap Some (sym s.1))))
+          (s.0, rw (← some_same (placing.0 i) j h) (placing.1.there i r (x.2 ∙ ap Some (sym s.1))))
 
   in_some_is : (j : ℕ) (o : Option R) (e : slice_get made j ≡ o) (r : R) → o ≡ Some r → (slice_get some (in_some j o e) ≡ Some r) × (placing.0 (in_some j o e) ≡ j)
   unfolding in_some
@@ -144,5 +144,5 @@ module _ {R : Type 0} (at : R → Pair) (keys : List Pair) (all made : List R) (
       let s = kept_has y.0 r y.2 in (
         y.1 ∙ ap Some s.1,
         ap (λ o. bind_option o (λ j. Some (placing.0 j))) y.3 ∙ ap Some x.1,
-        subst (λ r. Has keys (at r)) s.1 s.0,
+        rw (← s.1) s.0,
       )

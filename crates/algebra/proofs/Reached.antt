@@ -243,7 +243,7 @@ module _ (n1 n2 : ℕ) (starts1 starts2 : List ℕ) (ways : List PairWay) (stops
         m.2.marks ∙ ap (λ (y : Way). y.marks) r.2,
         ap f (sym (ap (λ (y : Way). y.from) r.2)) ∙ f_at r.0.from m.0.from (sides.froms r.0 has) m.2.from,
         ap f (sym (ap (λ (y : Way). y.to) r.2)) ∙ f_at r.0.to m.0.to (sides.tos r.0 has) m.2.to,
-        λ b byte. subst (λ bytes. HasByte bytes b) (sym (m.2.bytes ∙ ap (λ (y : Way). y.bytes) r.2)) byte,
+        λ b byte. rw (m.2.bytes ∙ ap (λ (y : Way). y.bytes) r.2) byte,
       )
 
   ways_back : (b h v : ℕ) (x : Way) → slice_get C.ways h ≡ Some x → f b ≡ Some x.from → HasByte x.bytes v →
@@ -259,7 +259,7 @@ module _ (n1 n2 : ℕ) (starts1 starts2 : List ℕ) (ways : List PairWay) (stops
         coded_way n2 m.0,
         get_map (coded_way n2) ways k m.0 o.0,
         ap c (sym same) ∙ r.2,
-        subst (λ bytes. HasByte bytes v) m.2.bytes byte,
+        rw (← m.2.bytes) byte,
         o.1,
       )
 

@@ -310,7 +310,7 @@ module _ (agree : ℕ → ℕ → Bool) (both : ℕ → ℕ → ℕ) where
           state_some y.from s.2.from s.3.from z1.0.from z2.0.from (sym (ap (λ (g : Way). g.from) s.8)) (wb2.froms s.3 h2) z1.3 z2.3,
           state_some y.to s.2.to s.3.to z1.0.to z2.0.to (sym (ap (λ (g : Way). g.to) s.8)) (wb2.tos s.3 h2) z1.4 z2.4,
           λ c has.
-              let both_have : HasByte (meet s.2.bytes s.3.bytes) c = subst (λ (g : Way). HasByte g.bytes c) (sym s.8) has in
+              let both_have : HasByte (meet s.2.bytes s.3.bytes) c = rw (← s.8) at has in
               in_meet z1.0.bytes z2.0.bytes c (z1.5 c (meet_left s.2.bytes s.3.bytes c both_have)) (z2.5 c (meet_right s.2.bytes s.3.bytes c both_have)),
         )
 
@@ -321,7 +321,7 @@ module _ (agree : ℕ → ℕ → Bool) (both : ℕ → ℕ → ℕ) where
         let t = state_cases b x.from image in
         let in2 = wa2.froms s.3 (place_has A2.ways s.1 s.3 s.6) in
         let same = pair_same k t.2 t.3 s.2.from s.3.from (red2.to_states t.1 t.3 t.7) in2 (t.8 ∙ sym (ap (λ (g : Way). g.from) s.8)) in
-        let byte : HasByte (meet s.2.bytes s.3.bytes) c = subst (λ (g : Way). HasByte g.bytes c) (sym s.8) has in
+        let byte : HasByte (meet s.2.bytes s.3.bytes) c = rw (← s.8) at has in
         let y1 = red1.ways_back t.0 s.0 c s.2 s.5 (t.6 ∙ ap Some same.0) (meet_left s.2.bytes s.3.bytes c byte) in
         let y2 = red2.ways_back t.1 s.1 c s.3 s.6 (t.7 ∙ ap Some same.1) (meet_right s.2.bytes s.3.bytes c byte) in
         let z1 = red1.ways_there y1.0 y1.1 s.0 y1.2 y1.5 in

@@ -41,7 +41,7 @@ sum_right : (n k : ℕ) (f1 f2 : ℕ → Option ℕ) (b a c : ℕ) → b ≡ n +
 sum_right n k f1 f2 b a c at e = sum_second n k f1 f2 b c at ∙ ap (option_map (λ a. k + a)) e
 
 pub get_right : {X : Type 0} (xs ys : List X) (k j : ℕ) (x : X) → k ≡ length xs + j → slice_get ys j ≡ Some x → slice_get (xs ++ ys) k ≡ Some x
-get_right [] ys k j x at e = let f : j ≡ k = omega (arith, at) in subst (λ k. slice_get ys k ≡ Some x) f e
+get_right [] ys k j x at e = let f : j ≡ k = omega (arith, at) in rw (← f) e
 get_right (y ∷ xs) ys zero j x at e = absurd (omega (arith, at))
 get_right (y ∷ xs) ys (suc k) j x at e = get_right xs ys k j x (omega (arith, at)) e
 
@@ -264,7 +264,7 @@ module _ (A1 B1 A2 B2 : Automaton) (wa1 : IsWhole A1) (wb1 : IsWhole B1) (wa2 : 
                 x.2 ∙ ap (λ (g : Way). g.marks) z.2,
                 sum_right B1.states A1.states f1 f2 y.from x.0.from z.0.from from x.3,
                 sum_right B1.states A1.states f1 f2 y.to x.0.to z.0.to end x.4,
-                λ c has. x.5 c (subst (λ (g : Way). HasByte g.bytes c) (sym z.2) has),
+                λ c has. x.5 c (rw (← z.2) at has),
               )
         ]
 
@@ -291,7 +291,7 @@ module _ (A1 B1 A2 B2 : Automaton) (wa1 : IsWhole A1) (wb1 : IsWhole B1) (wa2 : 
                 | inr d ↦
                     let v = value_right b d.0 x.from d.1 image in
                     let same : v.0 ≡ z.0.from = omega (arith, v.2, ap (λ (g : Way). g.from) z.2) in
-                    let y = red2.ways_back d.0 s.0 c z.0 z.1 (v.1 ∙ ap Some same) (subst (λ (g : Way). HasByte g.bytes c) (sym z.2) has) in (
+                    let y = red2.ways_back d.0 s.0 c z.0 z.1 (v.1 ∙ ap Some same) (rw (← z.2) at has) in (
                       length B1.ways + y.0,
                       moved_way B1.states y.1,
                       get_right B1.ways (map (moved_way B1.states) B2.ways) (length B1.ways + y.0) y.0 (moved_way B1.states y.1) refl (get_map (moved_way B1.states) B2.ways y.0 y.1 y.2),
@@ -313,7 +313,7 @@ module _ (A1 B1 A2 B2 : Automaton) (wa1 : IsWhole A1) (wb1 : IsWhole B1) (wa2 : 
               let v = value_right b x.0.state a here at in
               let old = red2.ends_back x.0.state v.0 m v.1 (end_moved B1.states b x.0.state m B2.stops here s) in
               Has-append_right A1.stops (map (moved_stop A1.states) A2.stops) (record { state = a; marks = m })
-              (subst (λ q. Has (map (moved_stop A1.states) A2.stops) (record { state = q; marks = m })) v.2 (moved_end A1.states v.0 m A2.stops old))
+              (rw (← v.2) (moved_end A1.states v.0 m A2.stops old))
         ]
 
     e_left : (b k : ℕ) → b < B1.states → e b k ≡ e1 b k

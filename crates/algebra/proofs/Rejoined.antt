@@ -41,8 +41,7 @@ module _ (A1 A2 B1 B2 : Marked) (a1 : IsMarked A1) (a2 : IsMarked A2) (b1 : IsMa
   over all =
       let is : join_over A1 A2 all ≡ join_of (agree_on B1.names B2.names all) (joined B1.names B2.names all) A1.graph A2.graph =
       (λ i. join_of (agree_on (e1 i) (e2 i) all) (joined (e1 i) (e2 i) all) A1.graph A2.graph) in
-      subst (λ (X : Automaton). Reduces X (join_over B1 B2 all)) (sym is)
-      (reduct_of_join (agree_on B1.names B2.names all) (joined B1.names B2.names all) A1.graph B1.graph A2.graph B2.graph a1.whole b1.whole a2.whole b2.whole first second)
+      rw (← is) at (reduct_of_join (agree_on B1.names B2.names all) (joined B1.names B2.names all) A1.graph B1.graph A2.graph B2.graph a1.whole b1.whole a2.whole b2.whole first second)
 
   names_are : all_names A1.names A2.names ≡ all_names B1.names B2.names
   names_are = λ i. all_names (e1 i) (e2 i)
@@ -62,7 +61,7 @@ module _ (A1 A2 B1 B2 : Marked) (a1 : IsMarked A1) (a2 : IsMarked A2) (b1 : IsMa
       let few = reduct_is_no_larger (join_over A1 A2 all) (join_over B1 B2 all) (join_whole A1.graph A2.graph a1.whole a2.whole agree both) (join_bytes agree both A1.graph A2.graph) (over all) in
       faults_more (A1.graph.states * A2.graph.states) (B1.graph.states * B2.graph.states) (length (join_over A1 A2 all).ways) (length (join_over B1 B2 all).ways) (length (join_over A1 A2 all).stops)
       (length (join_over B1 B2 all).stops) e few.0 few.1 few.2
-      (subst (λ ns. IsJoinFaultWithin (A1.graph.states * A2.graph.states) (length (join_over A1 A2 ns).ways) (length (join_over A1 A2 ns).stops) e) names_are h)
+      (rw (← names_are) h)
 
 -- the join with a first, or a second, automaton that is grouped first
 module _ (A B G : Marked) (r : Result Marked JoinFault) where

@@ -153,8 +153,8 @@ module _ (names1 names2 : List VarName) (m n : ℕ) (small1 : m < 2 ^ (2 * lengt
       let right = map (shift_of names2 names1 true) all in
       let len1 : length left ≡ length all = length-map all (shift_of names1 names2 true) in
       let len2 : length right ≡ length all = length-map all (shift_of names2 names1 true) in
-      let s1 : moved_marks left m < p = subst (λ k. moved_marks left m < 2 ^ (2 * k)) len1 (moved_small left m) in
-      let s2 : moved_marks right n < p = subst (λ k. moved_marks right n < 2 ^ (2 * k)) len2 (moved_small right n) in
+      let s1 : moved_marks left m < p = rw (← len1) (moved_small left m) in
+      let s2 : moved_marks right n < p = rw (← len2) (moved_small right n) in
       let a = bits_up (shift_of names1 names2 true x) m in
       let b = bits_up (shift_of names2 names1 true x) n in
       (λ i. shared_same x i && agree_is all i)

@@ -75,7 +75,7 @@ module _ (names1 names2 : List VarName) (m1 m2 : Mapping) where
   agreed [] p e x i h g = absurd i
   agreed (y ∷ names) p e x (inl at) h g =
       let this = left_true (if has_name names1 y && has_name names2 y then nat_eq (bits_of names1 (First p) y) (bits_of names2 (Second p) y) else true) (Agrees names p) e in
-      subst (λ z. digit (m1 z) p ≡ digit (m2 z) p) at (agree_at y p (subst (Has names1) (sym at) h) (subst (Has names2) (sym at) g) this)
+      rw (← at) (agree_at y p (subst (Has names1) (sym at) h) (subst (Has names2) (sym at) g) this)
   agreed (y ∷ names) p e x (inr i) h g =
       agreed names p (right_true (if has_name names1 y && has_name names2 y then nat_eq (bits_of names1 (First p) y) (bits_of names2 (Second p) y) else true) (Agrees names p) e) x i h g
 

@@ -91,8 +91,8 @@ row_few own shared p most all ws hs row made few =
 pub rows_of : (xs ys lefts rights : List HalfWay) (k : Pair) → lefts ≡ those_at half_from k.left xs → rights ≡ those_at half_from k.right ys →
     AreRowsOf xs ys k lefts rights
 rows_of xs ys lefts rights k l r = record {
-  left = λ x h. row_has half_from k.left xs x (subst (λ (zs : List HalfWay). Has zs x) l h);
-  right = λ y h. row_has half_from k.right ys y (subst (λ (zs : List HalfWay). Has zs y) r h);
+  left = λ x h. row_has half_from k.left xs x (rw (← l) h);
+  right = λ y h. row_has half_from k.right ys y (rw (← r) h);
   made = λ i. pairs ways_meet way_pair (r i) (l i);
 }
 
@@ -112,20 +112,20 @@ started_more left rights i right k1 k2 k3 l is a found keys few here only = reco
   keys = keys ∙ (ap (λ k. k ++ found) a.keys ∙ append_assoc k1 a.found found);
   few = λ h. few;
   all = λ p q h m. elim (Has-take_more_cases rights i 0 q l m) [
-    | inl x ↦ subst (λ k. Has k (pair_of p q)) (sym keys) (Has-append_left k2 found (pair_of p q) (a.all p q h x))
+    | inl x ↦ rw keys (Has-append_left k2 found (pair_of p q) (a.all p q h x))
     | inr e ↦ elim h as (λ _. Has k3 (pair_of p q)) [
-      | inl at ↦ subst (λ r. Has k3 (pair_of p r)) (sym is ∙ e) (subst (λ p. Has k3 (pair_of p right)) at here)
+      | inl at ↦ rw (← sym is ∙ e) (rw (← at) here)
       | inr n ↦ absurd n
     ]
   ];
   only = λ k h. elim (only k h) [
     | inl x ↦ elim (a.only k x) [
       | inl y ↦ inl y
-      | inr y ↦ inr (y.0, subst (λ zs. Has zs k.right) (sym (take_more rights i 0 l)) (Has-append_left (take i rights) (get_or rights i 0 ∷ []) k.right y.1))
+      | inr y ↦ inr (y.0, rw (take_more rights i 0 l) (Has-append_left (take i rights) (get_or rights i 0 ∷ []) k.right y.1))
     ]
     | inr e ↦ inr (
       inl (ap (λ (k : Pair). k.left) (sym e)),
-      subst (λ zs. Has zs k.right) (sym (take_more rights i 0 l))
+      rw (take_more rights i 0 l)
           (Has-append_right (take i rights) (get_or rights i 0 ∷ []) k.right (inl (is ∙ ap (λ (k : Pair). k.right) (sym e)))),
     )
   ];
@@ -139,16 +139,16 @@ started_then lefts rights i left k1 k2 k3 l is a b = record {
   keys = b.keys ∙ (ap (λ k. k ++ b.found) a.keys ∙ append_assoc k1 a.found b.found);
   few = λ h. b.few (a.few h);
   all = λ p q h m. elim (Has-take_more_cases lefts i 0 p l h) [
-    | inl x ↦ subst (λ k. Has k (pair_of p q)) (sym b.keys) (Has-append_left k2 b.found (pair_of p q) (a.all p q x m))
+    | inl x ↦ rw b.keys (Has-append_left k2 b.found (pair_of p q) (a.all p q x m))
     | inr e ↦ b.all p q (inl (sym is ∙ e)) m
   ];
   only = λ k h. elim (b.only k h) [
     | inl x ↦ elim (a.only k x) [
       | inl y ↦ inl y
-      | inr y ↦ inr (subst (λ zs. Has zs k.left) (sym (take_more lefts i 0 l)) (Has-append_left (take i lefts) (get_or lefts i 0 ∷ []) k.left y.0), y.1)
+      | inr y ↦ inr (rw (take_more lefts i 0 l) (Has-append_left (take i lefts) (get_or lefts i 0 ∷ []) k.left y.0), y.1)
     ]
     | inr y ↦ inr (
-      subst (λ zs. Has zs k.left) (sym (take_more lefts i 0 l))
+      rw (take_more lefts i 0 l)
           (Has-append_right (take i lefts) (get_or lefts i 0 ∷ []) k.left (elim y.0 as (λ _. Has (get_or lefts i 0 ∷ []) k.left) [ inl e ↦ inl (is ∙ e) | inr n ↦ absurd n ])),
       y.1,
     )
@@ -167,4 +167,4 @@ pub refusal_within : (A B : Automaton) (xs ys : List HalfWay) (keys : List Pair)
     (w : ℕ) → ArePairsWithin A.states B.states keys → LeadWithin A.states B.states (pairs ways_meet way_pair ys xs) → length ways + length (pairs ways_meet way_pair ys xs) ≤ w →
     IsSizeFaultWithin (A.states * B.states) w e
 refusal_within A B xs ys keys ways e (inl h) w within lead few = h A.states B.states w within lead few
-refusal_within A B xs ys keys ways e (inr h) w within lead few = subst (λ (e : SizeFault). IsSizeFaultWithin (A.states * B.states) w e) (sym h.1) (h.0, omega arith)
+refusal_within A B xs ys keys ways e (inr h) w within lead few = rw h.1 (h.0, omega arith)

@@ -63,7 +63,7 @@ module _ {X Y : Type 0} (at1 : X → ℕ) (at2 : Y → ℕ) where
 pub row_steps : (l r left right n : ℕ) → l ≡ left → r ≡ right → n ≡ left * right → 1 ≤ left → 1 ≤ right → l * r + l + r ≤ 3 * n
 row_steps l r left right n a b is some1 some2 =
     let here : left * right + left + right ≤ 3 * n = omega (arith, is, mul-le left 1 left right (omega arith) some2, mul-le 1 right left right some1 (omega arith)) in
-    subst (λ y. l * y + l + y ≤ 3 * n) (sym b) (subst (λ x. x * right + x + right ≤ 3 * n) (sym a) here)
+    rw b (rw a here)
 
 pub some_there : (n : ℕ) → nat_eq n 0 ≡ false → 1 ≤ n
 some_there zero e = absurd (true≢false e)

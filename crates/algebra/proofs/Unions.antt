@@ -28,7 +28,7 @@ walk_moved k ways d w (suc n) i p q r at h =
     let rest = walk_moved k ways d w n (suc i) y.0.to q h.0.to (sym to) h.5 in (
       rest.0,
       rest.1,
-      (y.0, y.1, omega (arith, from, h.2, at), ap (λ (g : Way). g.marks) y.2 ∙ h.3, subst (λ (g : Way). ReadsByte d i g.bytes) (sym y.2) h.4, rest.2),
+      (y.0, y.1, omega (arith, from, h.2, at), ap (λ (g : Way). g.marks) y.2 ∙ h.3, rw (← y.2) at h.4, rest.2),
     )
 
 module _ (A B : Automaton) (a : IsWhole A) (b : IsWhole B) (d : List ℕ) (w : ℕ → ℕ) where
@@ -85,7 +85,7 @@ module _ (A B : Automaton) (a : IsWhole A) (b : IsWhole B) (d : List ℕ) (w : �
               | inr x ↦
                   let m = Has-map_cases (moved_stop A.states) B.stops h.1 x in
                   let same : t.0 ≡ m.0.state = omega (arith, ap (λ (g : Stop). g.state) m.2, t.1) in
-                  inr (p.0, m.0, p.1, m.1, subst (λ x. Walk B.ways d w 0 (length d) p.0 x) same t.2, ap (λ (g : Stop). g.marks) m.2 ∙ h.5)
+                  inr (p.0, m.0, p.1, m.1, rw same at t.2, ap (λ (g : Stop). g.marks) m.2 ∙ h.5)
             ]
       ]
 

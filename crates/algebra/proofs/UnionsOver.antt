@@ -37,7 +37,7 @@ over_itself A all marked up all_up sub len =
     let same = all_kept A.names all up all_up sub len in
     record {
       names = same;
-      graph = subst (λ (ns : List VarName). A.graph ≡ graph_over ns A) same (sym (own_names A (ascending-distinct A.names up) marked));
+      graph = rw (← same) (sym (own_names A (ascending-distinct A.names up) marked));
     }
 
 -- the numbers of its names and of all names tell it
@@ -53,7 +53,7 @@ pub same_names_law : UnionOverSameNames
 same_names_law A B dis same a b =
     let first = own_names A dis a in
     let second : graph_over A.names B ≡ B.graph =
-    subst (λ (ns : List VarName). graph_over ns B ≡ B.graph) (sym same) (own_names B (subst AreDistinct same dis) b) in
+    rw same (own_names B (subst AreDistinct same dis) b) in
     λ i. union_of (first i) (second i)
 
 -- ---- what is made
@@ -66,7 +66,7 @@ pub union_made : (A B P Q : Marked) (all : List VarName) → IsOver all A P → 
     IfOk r (λ (u : Marked). u.names ≡ P.names) → IfOk r (λ (u : Marked). Reduces u.graph (union_of P.graph Q.graph)) → IfOk r (λ (u : Marked). Reduces u.graph (union_over A B u.names))
 union_made A B P Q all p q (Err e) names reduct = tt
 union_made A B P Q all p q (Ok u) names reduct =
-    subst (λ (ns : List VarName). Reduces u.graph (union_over A B ns)) (sym (names ∙ p.names)) (subst (λ (G : Automaton). Reduces u.graph G) (united_over A B P Q all p q) reduct)
+    rw (names ∙ p.names) (rw (← united_over A B P Q all p q) reduct)
 
 -- what is over all names already, and what is made so
 pub over_as_it_is : (all : List VarName) (A : Marked) (b : Bool) → IsTrue b → OnTrue b (IsOver all A A) → IsOver all A A
@@ -75,10 +75,10 @@ over_as_it_is all A false e h = let f : false ≡ true = e in absurd (cc)
 
 -- a name of one of both is one of all
 pub first_of_all : (all names1 names2 own1 own2 : List VarName) → all ≡ all_names own1 own2 → own1 ≡ names1 → own2 ≡ names2 → (x : VarName) → Has names1 x → Has all x
-first_of_all all names1 names2 own1 own2 e f g x h = subst (λ (ns : List VarName). Has ns x) (sym (names_by e f g)) ((all_are names1 names2 x).1 (inl h))
+first_of_all all names1 names2 own1 own2 e f g x h = rw (names_by e f g) ((all_are names1 names2 x).1 (inl h))
 
 pub second_of_all : (all names1 names2 own1 own2 : List VarName) → all ≡ all_names own1 own2 → own1 ≡ names1 → own2 ≡ names2 → (x : VarName) → Has names2 x → Has all x
-second_of_all all names1 names2 own1 own2 e f g x h = subst (λ (ns : List VarName). Has ns x) (sym (names_by e f g)) ((all_are names1 names2 x).1 (inr h))
+second_of_all all names1 names2 own1 own2 e f g x h = rw (names_by e f g) ((all_are names1 names2 x).1 (inr h))
 
 -- ---- words, and reducts
 

@@ -26,12 +26,12 @@ module _ (A B : Marked) (b : IsMarked B) where
     stops = q.stops ∙ ap (λ xs. xs ++ map (moved_stop A.graph.states) B.graph.stops) p.stops;
     idles = λ s. (
       (λ h. elim ((q.idles s).0 h) [
-        | inl x ↦ Has-append_left A.graph.idle (map (◌+◌ A.graph.states) B.graph.idle) s (subst (λ (xs : List ℕ). Has xs s) p.idle x)
+        | inl x ↦ Has-append_left A.graph.idle (map (◌+◌ A.graph.states) B.graph.idle) s (rw (← p.idle) x)
         | inr r ↦ Has-append_right A.graph.idle (map (◌+◌ A.graph.states) B.graph.idle) s
             (subst (Has (map (◌+◌ A.graph.states) B.graph.idle)) r.2 (Has-map (◌+◌ A.graph.states) B.graph.idle r.0 r.1))
       ]),
       (λ h. elim (Has-append_cases A.graph.idle (map (◌+◌ A.graph.states) B.graph.idle) s h) [
-        | inl x ↦ (q.idles s).1 (inl (subst (λ (xs : List ℕ). Has xs s) (sym p.idle) x))
+        | inl x ↦ (q.idles s).1 (inl (rw p.idle x))
         | inr x ↦ let r = Has-map_cases (◌+◌ A.graph.states) B.graph.idle s x in (q.idles s).1 (inr (r.0, r.1, r.2))
       ]),
     );

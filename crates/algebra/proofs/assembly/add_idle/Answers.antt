@@ -27,7 +27,7 @@ add_idle_of-requires-clause-way c = λ l r.
     let found = c.args.found.now in
     let i = c.loop-state.state in
     let k : Pair = get_or found i (pair_of 0 0) in
-    subst (λ ws. Has ws (idle_way i)) (sym c.loop-state.invariant.graph.ways)
+    rw c.loop-state.invariant.graph.ways
     (c.requires.ways i (k, slice_get-get_or found i (pair_of 0 0) c.loop-state-test.true, l, r))
 
 pub loop-state-preserved : goal.loop-state-preserved

@@ -19,9 +19,9 @@ use Rattle.algebra.proofs.assembly.add_stops.Goals as goal
 
 pub add_stops_at-requires-clause-marks : goal.add_stops_at-requires-clause-marks
 add_stops_at-requires-clause-marks c = λ x y hx hy.
-    subst (λ v. x.stop.marks + y.stop.marks < 2 ^ (2 * v)) (sym (ap length c.loop-state.invariant.names))
-    (c.requires.marks x y (row_has half_at _ c.args.xs.now x (subst (λ (zs : List HalfStop). Has zs x) c.stops_from.ensures hx)).0
-    (row_has half_at _ c.args.ys.now y (subst (λ (zs : List HalfStop). Has zs y) c.stops_from-in-loop-state.ensures hy)).0)
+    rw (ap length c.loop-state.invariant.names)
+    (c.requires.marks x y (row_has half_at _ c.args.xs.now x (rw c.stops_from.ensures at hx)).0
+    (row_has half_at _ c.args.ys.now y (rw c.stops_from-in-loop-state.ensures at hy)).0)
 
 pub loop-state-preserved : goal.loop-state-preserved
 loop-state-preserved c =
@@ -47,7 +47,7 @@ loop-state-preserved c =
         inv.stops.0 ++ new,
         ok.stops ∙ (ap (λ zs. c.loop-state.automaton.graph.stops ++ map (stop_at i) zs) rows
             ∙ (ap (λ zs. zs ++ new) inv.stops.1 ∙ append_assoc c.args.automaton.now.graph.stops inv.stops.0 new)),
-        subst (λ (zs : List PairStop). Matched (IsStopAt found) zs (inv.stops.0 ++ new)) (sym more)
+        rw more
             (matched_append (IsStopAt found) before here inv.stops.0 new inv.stops.2 (stops_match found i k xs ys at)),
       );
       same = record {

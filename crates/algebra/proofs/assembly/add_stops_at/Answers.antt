@@ -8,7 +8,7 @@ pub add_stops_with-requires-clause-marks : goal.add_stops_with-requires-clause-m
 add_stops_with-requires-clause-marks c = λ y h.
     let xs = c.args.xs.now in
     let x = c.x-item.result in
-    subst (λ v. x.stop.marks + y.stop.marks < 2 ^ (2 * v)) (sym (ap length c.loop-x.invariant.names))
+    rw (ap length c.loop-x.invariant.names)
     (c.requires.marks x y (Has-item xs xs c.loop-x.x-index x refl c.loop-x-test.true c.x-item.is) h)
 
 -- those that are made so far are no more than all

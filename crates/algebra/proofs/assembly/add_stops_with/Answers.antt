@@ -6,5 +6,5 @@ pub add_stop_of-requires-clause-marks : goal.add_stop_of-requires-clause-marks
 add_stop_of-requires-clause-marks c =
     let ys = c.args.ys.now in
     let y = c.y-item.result in
-    subst (λ v. c.args.x.now.stop.marks + y.stop.marks < 2 ^ (2 * v)) (sym (ap length c.loop-y.invariant.names))
+    rw (ap length c.loop-y.invariant.names)
     (c.requires.marks y (Has-item ys ys c.loop-y.y-index y refl c.loop-y-test.true c.y-item.is))

@@ -21,6 +21,6 @@ returns-clause-rows c =
     let all = map (half_stop c.args.own.now c.args.shared.now) c.args.stops.now in
     let is : old ≡ all = c.loop-stop.invariant ∙
     ap (λ zs. map (half_stop c.args.own.now c.args.shared.now) zs) (take_all c.loop-stop.stop-index c.args.stops.now (omega (arith, c.loop-stop-test.false))) in
-    subst (λ (zs : List HalfStop). HaveSameRows half_at new zs) is
+    rw (← is)
     (rows_stay half_at at_number (λ p. refl) old new
     (c.sort_by_key.ensures.stable half_at (always_returns_same _ (λ a r. r ≡ half_at a.0.now) _ (λ a r q k. search rules))))

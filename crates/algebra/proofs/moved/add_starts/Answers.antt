@@ -9,7 +9,7 @@ overflow_add-by c =
     let starts = c.starts-starts.result.now in
     let i = c.loop-state.state-index in
     let here : get_or starts i 0 < c.args.part.now.graph.states =
-    c.requires.part.starts (get_or starts i 0) (subst (λ (xs : List ℕ). Has xs (get_or starts i 0)) c.starts-starts.ensures (Has-get_or starts i 0 c.loop-state-test.true)) in
+    c.requires.part.starts (get_or starts i 0) (rw (← c.starts-starts.ensures) (Has-get_or starts i 0 c.loop-state-test.true)) in
     omega (arith, here, c.requires.room, c.requires.few)
 
 pub add_start-requires : goal.add_start-requires
@@ -17,5 +17,5 @@ add_start-requires c =
     let starts = c.starts-starts.result.now in
     let i = c.loop-state.state-index in
     let here : get_or starts i 0 < c.args.part.now.graph.states =
-    c.requires.part.starts (get_or starts i 0) (subst (λ (xs : List ℕ). Has xs (get_or starts i 0)) c.starts-starts.ensures (Has-get_or starts i 0 c.loop-state-test.true)) in
+    c.requires.part.starts (get_or starts i 0) (rw (← c.starts-starts.ensures) (Has-get_or starts i 0 c.loop-state-test.true)) in
     omega (arith, here, c.requires.room, c.loop-state.invariant.states)

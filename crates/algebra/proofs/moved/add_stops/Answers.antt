@@ -16,4 +16,4 @@ add_stop-requires-clause-state c =
 pub add_stop-requires-clause-marks : goal.add_stop-requires-clause-marks
 add_stop-requires-clause-marks c =
     let has = Has-item c.stops-stops.result.now c.args.part.now.graph.stops c.loop-stop.stop-index c.stop-item.result c.stops-stops.ensures c.loop-stop-test.true c.stop-item.is in
-    subst (λ v. IsBlockOf v c.stop-item.result.marks) (sym (ap length (c.loop-stop.invariant.names ∙ c.requires.names))) (c.requires.part.stop_marks c.stop-item.result has)
+    rw (ap length (c.loop-stop.invariant.names ∙ c.requires.names)) (c.requires.part.stop_marks c.stop-item.result has)

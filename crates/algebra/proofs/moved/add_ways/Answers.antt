@@ -26,7 +26,7 @@ add_way-requires-clause-to c =
 pub add_way-requires-clause-marks : goal.add_way-requires-clause-marks
 add_way-requires-clause-marks c =
     let has = Has-item c.ways-ways.result.now c.args.part.now.graph.ways c.loop-way.way-index c.way-item.result c.ways-ways.ensures c.loop-way-test.true c.way-item.is in
-    subst (λ v. IsBlockOf v c.way-item.result.marks) (sym (ap length (c.loop-way.invariant.names ∙ c.requires.names))) (c.is_marked.ensures.way_marks c.way-item.result has)
+    rw (ap length (c.loop-way.invariant.names ∙ c.requires.names)) (c.is_marked.ensures.way_marks c.way-item.result has)
 
 pub add_way-requires-clause-bytes : goal.add_way-requires-clause-bytes
 add_way-requires-clause-bytes c =

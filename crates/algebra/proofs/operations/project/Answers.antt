@@ -11,7 +11,7 @@ use Rattle.algebra.proofs.Alike.{remarked_whole}
 use Rattle.algebra.proofs.operations.project.Goals as goal
 
 go : (G : Automaton) → Reduces G G → (r : Result Marked OutOfMemory) → IfOk r (λ (a : Marked). a.graph ≡ G) → IfOk r (λ (p : Marked). Reduces p.graph G)
-go G h (Ok a) e = subst (λ (X : Automaton). Reduces X G) (sym e) h
+go G h (Ok a) e = rw e h
 go G h (Err x) e = tt
 
 pub returns-clause-reduct : goal.returns-clause-reduct

@@ -7,4 +7,4 @@ use Rattle.algebra.proofs.operations.union.Goals as goal
 
 pub returns-clause-reduct : goal.returns-clause-reduct
 returns-clause-reduct c =
-    subst (λ (A : Marked). IfOk c.unite.result (λ (u : Marked). Reduces u.graph (union_over A c.args.b.now u.names))) c.in_ok-copy.ensures c.unite.ensures.reduct
+    rw (← c.in_ok-copy.ensures) c.unite.ensures.reduct

@@ -28,5 +28,5 @@ returns-clause-fit c =
     let few : length names ≤ MOST_VARIABLES = omega (arith, c.len-few.ensures.few, c.len-few.ensures.value) in
     record {
       few = omega (arith, ap length is, length-map all f, c.requires);
-      small = λ s h. shifts_small names c.args.other.now c.args.wanted all s few (subst (λ (zs : List (Option ℕ)). Has zs (Some s)) is h);
+      small = λ s h. shifts_small names c.args.other.now c.args.wanted all s few (rw (← is) h);
     }

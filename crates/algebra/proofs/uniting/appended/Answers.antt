@@ -15,10 +15,10 @@ add_part-requires-clause-ways c = λ q h.
     let G1 = c.add_ways.new.whole.graph in
     let start : c.add_states.new.self.graph ≡ with_states B.graph.states A.graph = c.in_ok-add_states.ensures.ok ∙ ap (λ n. with_states n A.graph) c.states.ensures.value in
     let ways : IsWithWays A.graph.states B.graph (with_states B.graph.states A.graph) G1 =
-    subst (λ (G : Automaton). IsWithWays A.graph.states B.graph G G1) start
-    (subst (λ n. IsWithWays n B.graph c.add_states.new.self.graph G1) c.states-by.ensures.value c.in_ok-add_ways.ensures.ways) in
-    subst (λ ws. Has ws (idle_way (c.states-by.result + q))) (sym ways.ways)
-    (subst (λ n. Has (union_of A.graph B.graph).ways (idle_way (n + q))) (sym c.states-by.ensures.value) (second_idle A B c.states.ensures.marked q h))
+    rw (← start)
+    (rw (← c.states-by.ensures.value) c.in_ok-add_ways.ensures.ways) in
+    rw ways.ways
+    (rw c.states-by.ensures.value (second_idle A B c.states.ensures.marked q h))
 
 pub returns-clause-reduct : goal.returns-clause-reduct
 returns-clause-reduct c =
@@ -28,7 +28,7 @@ returns-clause-reduct c =
     let G2 = c.add_part.new.whole.graph in
     let start : c.add_states.new.self.graph ≡ with_states B.graph.states A.graph = c.in_ok-add_states.ensures.ok ∙ ap (λ n. with_states n A.graph) c.states.ensures.value in
     let ways : IsWithWays A.graph.states B.graph (with_states B.graph.states A.graph) G1 =
-    subst (λ (G : Automaton). IsWithWays A.graph.states B.graph G G1) start
-    (subst (λ n. IsWithWays n B.graph c.add_states.new.self.graph G1) c.states-by.ensures.value c.in_ok-add_ways.ensures.ways) in
-    let part : IsWithPart A.graph.states B.graph G1 G2 = subst (λ n. IsWithPart n B.graph G1 G2) c.states-by.ensures.value c.in_ok-add_part.ensures.part in
+    rw (← start)
+    (rw (← c.states-by.ensures.value) c.in_ok-add_ways.ensures.ways) in
+    let part : IsWithPart A.graph.states B.graph G1 G2 = rw (← c.states-by.ensures.value) c.in_ok-add_part.ensures.part in
     alike_reduces G2 (union_of A.graph B.graph) (union_whole A.graph B.graph c.states-by.ensures.marked.whole c.states.ensures.marked.whole) (united A B c.states.ensures.marked G1 G2 ways part)

@@ -24,8 +24,8 @@ returns-then-is_empty-clause-rows c =
       | then-is_empty-via-then-is_empty w ↦ inl (sym one ∙ eqb-true (length lefts) 0 (sym c.is_empty.ensures ∙ w.if-is_empty.true))
       | then-is_empty-via-else-is_empty+then-is_empty-2 w ↦ inr (sym two ∙ eqb-true (length rights) 0 (sym w.is_empty-else-is_empty.ensures ∙ w.if-is_empty-2.true))
     ] in
-    subst (λ (zs : List HalfWay). AreRowsOf xs ys k zs c.clear-then-is_empty.new.self.items) (sym c.clear.ensures.items)
-    (subst (λ (zs : List HalfWay). AreRowsOf xs ys k [] zs) (sym c.clear-then-is_empty.ensures.items) (no_rows_of xs ys k empty))
+    rw c.clear.ensures.items
+    (rw c.clear-then-is_empty.ensures.items (no_rows_of xs ys k empty))
 
 pub returns-clause-rows : goal.returns-clause-rows
 returns-clause-rows c =
@@ -57,5 +57,5 @@ returns-clause-steps c =
     let two : length rights ≡ length (those_at half_from k.right ys) = row_length c.args.right.now k.right rights c.ways_from-rights.ensures in
     row_steps _ _ (length (those_at half_from k.left xs)) (length (those_at half_from k.right ys)) _ (ap length c.in_ok-put_half_ways.ensures ∙ (length-map lefts _ ∙ one))
     (ap length c.in_ok-put_half_ways-2.ensures ∙ (length-map rights _ ∙ two)) (tried_len half_from half_from xs ys k)
-    (subst (λ n. 1 ≤ n) one (some_there (length lefts) (sym c.is_empty.ensures ∙ c.if-is_empty.false)))
-    (subst (λ n. 1 ≤ n) two (some_there (length rights) (sym c.is_empty-else-is_empty.ensures ∙ c.if-is_empty-2.false)))
+    (rw (← one) (some_there (length lefts) (sym c.is_empty.ensures ∙ c.if-is_empty.false)))
+    (rw (← two) (some_there (length rights) (sym c.is_empty-else-is_empty.ensures ∙ c.if-is_empty-2.false)))

@@ -17,7 +17,7 @@ returns-in_err-find_with-clause-fault c =
     let here = started_within (take i lefts) rights k c.loop-left.self.found.keys n1 n2 c.loop-left.invariant.started within (λ p h. l p (Has-take lefts i p h)) r in
     let left = get_or lefts i 0 in
     c.in_err-find_with.ensures.fault n1 n2 w here
-    (λ p h. elim h as (λ _. p < n1) [ inl e ↦ subst (λ p. p < n1) e (l left (Has-get_or lefts i 0 c.loop-left-test.true)) | inr n ↦ absurd n ]) r)
+    (λ p h. elim h as (λ _. p < n1) [ inl e ↦ rw (← e) (l left (Has-get_or lefts i 0 c.loop-left-test.true)) | inr n ↦ absurd n ]) r)
 
 pub loop-left-preserved : goal.loop-left-preserved
 loop-left-preserved c =

@@ -25,15 +25,15 @@ follow_pair-requires-clause-from c = λ x y hx hy.
     let done = c.loop-done.done in
     let rows = c.in_ok-put.ensures.rows in
     let within : done < length slice = omega (arith, c.loop-done-test.true, c.len.ensures.len, ap length c.as_slice.ensures.keys) in
-    let left = (rows.left x (subst (λ (zs : List HalfWay). Has zs x) c.as_slice-in-loop-done.ensures.value hx)).1 in
-    let right = (rows.right y (subst (λ (zs : List HalfWay). Has zs y) c.as_slice-in-loop-done-2.ensures.value hy)).1 in
+    let left = (rows.left x (rw (← c.as_slice-in-loop-done.ensures.value) hx)).1 in
+    let right = (rows.right y (rw (← c.as_slice-in-loop-done-2.ensures.value) hy)).1 in
     ap (λ zs. slice_get zs done) (sym c.as_slice.ensures.keys) ∙ (slice_get-get_or slice done (pair_of 0 0) within ∙ ap Some (λ i. record { left = sym left i; right = sym right i }))
 
 pub follow_pair-requires-clause-marks : goal.follow_pair-requires-clause-marks
 follow_pair-requires-clause-marks c = λ x y hx hy.
     let rows = c.in_ok-put.ensures.rows in
-    c.requires.marks x y (rows.left x (subst (λ (zs : List HalfWay). Has zs x) c.as_slice-in-loop-done.ensures.value hx)).0
-    (rows.right y (subst (λ (zs : List HalfWay). Has zs y) c.as_slice-in-loop-done-2.ensures.value hy)).0
+    c.requires.marks x y (rows.left x (rw (← c.as_slice-in-loop-done.ensures.value) hx)).0
+    (rows.right y (rw (← c.as_slice-in-loop-done-2.ensures.value) hy)).0
 
 pub returns-in_err-follow_pair-clause-fault : goal.returns-in_err-follow_pair-clause-fault
 returns-in_err-follow_pair-clause-fault c =
@@ -56,9 +56,9 @@ returns-in_err-follow_pair-clause-fault c =
     handed_on (IsTold (IsFollowRefusal c.args.left.now c.args.right.now k0 w0)) c.from_residual-in_err-follow_pair.result (Size e)
     c.from_residual-in_err-follow_pair.ensures.1
     (inl (refusal_of_all xs ys (take (done + 1) keys) k0 w0 e apart
-    (subst (λ (r : List PairWay). IsRefusalOf r k0 w0 e) (ap (λ zs. before ++ zs) (append-nil (ways_at xs ys k)) ∙ sym more)
+    (rw (← (ap (λ zs. before ++ zs) (append-nil (ways_at xs ys k)) ∙ sym more))
     (refusal_then before (ways_at xs ys k) [] k0 keys w0 c.loop-done.self.ways.items e c.loop-done.invariant.followed
-    (subst (λ (r : List PairWay). IsRefusalOf r keys c.loop-done.self.ways.items e) rows c.in_err-follow_pair.ensures.fault)))))
+    (rw (← rows) c.in_err-follow_pair.ensures.fault)))))
 
 pub loop-done-preserved : goal.loop-done-preserved
 loop-done-preserved c =
@@ -80,9 +80,9 @@ loop-done-preserved c =
     ap (λ zs. flat_map (ways_at xs ys) (take (done + 1) zs)) f.keys ∙ rows_more (ways_at xs ys) keys f.found done k within is in
     let len : length new.found.keys ≡ length keys + length f.found = ap length f.keys ∙ length-append keys f.found in
     record {
-      followed = subst (λ (r : List PairWay). IsFollowed r k0 w0 new.found.keys new.ways.items) (sym more)
+      followed = rw more
           (followed_then before (ways_at xs ys k) k0 keys new.found.keys w0 c.loop-done.self.ways.items new.ways.items c.loop-done.invariant.followed
-          (subst (λ (r : List PairWay). IsFollowed r keys c.loop-done.self.ways.items new.found.keys new.ways.items) rows f));
+          (rw (← rows) f));
       within = omega (arith, within, len);
       effort = omega (arith, c.spend.ensures, c.loop-done.invariant.effort);
       steps = omega (

@@ -18,7 +18,7 @@ returns-then-number-clause-followed c =
     let y = c.args.y.now in
     let differ : nat_eq x.shared y.shared ≡ false = ne_eqb x.shared y.shared (λ e. c.if-number.true (c.number.ensures ∙ (e ∙ sym c.number-2.ensures))) in
     let none : ways_with x (y ∷ []) ≡ [] = row_none ways_meet way_pair x y (ap (λ b. b && has_some (meet x.way.bytes y.way.bytes)) differ) in
-    subst (λ (r : List PairWay). IsFollowed r c.args.self.now.found.keys c.args.self.now.ways.items c.args.self.now.found.keys c.args.self.now.ways.items) (sym none)
+    rw none
     (followed_none c.args.self.now.found.keys c.args.self.now.ways.items)
 
 pub returns-then-is_empty-clause-followed : goal.returns-then-is_empty-clause-followed
@@ -27,7 +27,7 @@ returns-then-is_empty-clause-followed c =
     let y = c.args.y.now in
     let empty : has_some (meet x.way.bytes y.way.bytes) ≡ false = no_bytes (meet x.way.bytes y.way.bytes) (sym c.meet-bytes.ensures ∙ c.is_empty.ensures.0 c.if-is_empty.true) in
     let none : ways_with x (y ∷ []) ≡ [] = row_none ways_meet way_pair x y (and_right (nat_eq x.shared y.shared) (has_some (meet x.way.bytes y.way.bytes)) empty) in
-    subst (λ (r : List PairWay). IsFollowed r c.args.self.now.found.keys c.args.self.now.ways.items c.args.self.now.found.keys c.args.self.now.ways.items) (sym none)
+    rw none
     (followed_none c.args.self.now.found.keys c.args.self.now.ways.items)
 
 pub returns-in_err-to-clause-fault : goal.returns-in_err-to-clause-fault
@@ -40,7 +40,7 @@ returns-in_err-to-clause-fault c =
     let one : ways_with x (y ∷ []) ≡ way_pair x y ∷ [] = row_one ways_meet way_pair x y (both_true (nat_eq x.shared y.shared) (has_some (meet x.way.bytes y.way.bytes)) same some) in
     handed_on (λ (e : SizeFault). IsRefusalOf (ways_with x (y ∷ [])) c.args.self.now.found.keys c.args.self.now.ways.items e) c.from_residual.result c.in_err-to.field-0.0 c.from_residual.ensures.1
     (λ n1 n2 w h l le.
-    let to = l (way_pair x y) (subst (λ (r : List PairWay). Has r (way_pair x y)) (sym one) (inl refl)) in
+    let to = l (way_pair x y) (rw one (inl refl)) in
     c.in_err-to.ensures.fault n1 n2 w h to.0 to.1)
 
 pub returns-clause-followed : goal.returns-clause-followed
@@ -56,7 +56,7 @@ returns-clause-followed c =
     let g = c.in_ok-to.ensures.grows in
     let made : Way = record { from = c.args.from; marks = c.of.result; bytes = c.meet-bytes.result; to = c.in_ok-to.to } in
     let marks : c.of.result ≡ x.way.marks + y.way.marks = omega (arith, c.of.ensures, c.number-3.ensures, c.number-4.ensures) in
-    subst (λ (r : List PairWay). IsFollowed r old.found.keys old.ways.items keys c.push.new.self.items) (sym one)
+    rw one
     (record {
       found = g.0;
       keys = g.1;
@@ -66,7 +66,7 @@ returns-clause-followed c =
       ways = c.in_ok-push.ensures.items ∙ ap (λ ws. ws ++ made ∷ []) c.number_of.ensures.ways;
       between = (
         record {
-          from = subst (λ k. slice_get k c.args.from ≡ Some (way_pair x y).from) (sym g.1) (get_left old.found.keys g.0 c.args.from (way_pair x y).from c.requires.from);
+          from = rw g.1 (get_left old.found.keys g.0 c.args.from (way_pair x y).from c.requires.from);
           marks = marks;
           bytes = c.meet-bytes.ensures;
           to = c.in_ok-to.ensures.number;

@@ -18,7 +18,7 @@ follow_way-requires-clause-from c = λ y h.
     let inv = c.loop-x.invariant in
     let at = pair_of x.way.from y.way.from in
     let has = Has-item xs xs c.loop-x.x-index x refl c.loop-x-test.true c.x-item.is in
-    subst (λ k. slice_get k c.args.from ≡ Some at) (sym inv.keys) (get_left c.args.self.now.found.keys inv.found c.args.from at (c.requires.from x y has h))
+    rw inv.keys (get_left c.args.self.now.found.keys inv.found c.args.from at (c.requires.from x y has h))
 
 pub follow_way-requires-clause-marks : goal.follow_way-requires-clause-marks
 follow_way-requires-clause-marks c = λ y h.
@@ -36,7 +36,7 @@ returns-in_err-follow_way-clause-fault c =
     let w = c.args.self.now.ways.items in
     let e = c.in_err-follow_way.field-0.0 in
     handed_on (λ (e : SizeFault). IsRefusalOf (pairs ways_meet way_pair ys xs) k w e) c.from_residual.result e c.from_residual.ensures.1
-    (subst (λ (r : List PairWay). IsRefusalOf r k w e) (sym (pairs_split ways_meet way_pair xs ys i x c.loop-x-test.true c.x-item.is))
+    (rw (pairs_split ways_meet way_pair xs ys i x c.loop-x-test.true c.x-item.is)
     (refusal_then (pairs ways_meet way_pair ys (take i xs)) (ways_with x ys) (pairs ways_meet way_pair ys (drop (i + 1) xs)) k c.loop-x.self.found.keys w c.loop-x.self.ways.items e
     c.loop-x.invariant c.in_err-follow_way.ensures.fault))
 
@@ -53,7 +53,7 @@ returns-then-len-gt-MOST_WAYS-clause-fault c =
     let rest = pairs ways_meet way_pair ys (drop (i + 1) xs) in
     let count = c.len-then-len-gt-MOST_WAYS.result in
     let split = pairs_split ways_meet way_pair xs ys i x c.loop-x-test.true c.x-item.is ∙ sym (append_assoc before (ways_with x ys) rest) in
-    subst (λ (r : List PairWay). IsRefusalOf r k w (Ways count)) (sym split)
+    rw split
     (refusal_of_ways (before ++ ways_with x ys) rest k new.found.keys w new.ways.items count
     (followed_then before (ways_with x ys) k c.loop-x.self.found.keys new.found.keys w c.loop-x.self.ways.items new.ways.items c.loop-x.invariant c.in_ok-follow_way.ensures.followed)
     (omega (arith, c.if-len-gt-MOST_WAYS.true, c.len.ensures, c.len-then-len-gt-MOST_WAYS.ensures)) (let e : count ≡ length new.ways.items =
@@ -68,6 +68,6 @@ loop-x-preserved c =
     let k = c.args.self.now.found.keys in
     let w = c.args.self.now.ways.items in
     let new = c.follow_way.new.self in
-    subst (λ (r : List PairWay). IsFollowed r k w new.found.keys new.ways.items) (sym (pairs_more ways_meet way_pair xs ys i x c.loop-x-test.true c.x-item.is))
+    rw (pairs_more ways_meet way_pair xs ys i x c.loop-x-test.true c.x-item.is)
     (followed_then (pairs ways_meet way_pair ys (take i xs)) (ways_with x ys) k c.loop-x.self.found.keys new.found.keys w c.loop-x.self.ways.items new.ways.items
     c.loop-x.invariant c.in_ok-follow_way.ensures.followed)

@@ -17,7 +17,7 @@ follow_both-requires-clause-from c =
     let inv = c.loop-y.invariant in
     let at = pair_of c.args.x.now.way.from y.way.from in
     let has = Has-item ys ys c.loop-y.y-index y refl c.loop-y-test.true c.y-item.is in
-    subst (λ k. slice_get k c.args.from ≡ Some at) (sym inv.keys) (get_left c.args.self.now.found.keys inv.found c.args.from at (c.requires.from y has))
+    rw inv.keys (get_left c.args.self.now.found.keys inv.found c.args.from at (c.requires.from y has))
 
 pub follow_both-requires-clause-marks : goal.follow_both-requires-clause-marks
 follow_both-requires-clause-marks c =
@@ -35,7 +35,7 @@ returns-in_err-follow_both-clause-fault c =
     let w = c.args.self.now.ways.items in
     let e = c.in_err-follow_both.field-0.0 in
     handed_on (λ (e : SizeFault). IsRefusalOf (ways_with x ys) k w e) c.from_residual.result e c.from_residual.ensures.1
-    (subst (λ (r : List PairWay). IsRefusalOf r k w e) (sym (row_split ways_meet way_pair x ys i y c.loop-y-test.true c.y-item.is))
+    (rw (row_split ways_meet way_pair x ys i y c.loop-y-test.true c.y-item.is)
     (refusal_then (ways_with x (take i ys)) (ways_with x (y ∷ [])) (ways_with x (drop (i + 1) ys)) k c.loop-y.self.found.keys w c.loop-y.self.ways.items e
     c.loop-y.invariant c.in_err-follow_both.ensures.fault))
 
@@ -48,6 +48,6 @@ loop-y-preserved c =
     let k = c.args.self.now.found.keys in
     let w = c.args.self.now.ways.items in
     let new = c.follow_both.new.self in
-    subst (λ (r : List PairWay). IsFollowed r k w new.found.keys new.ways.items) (sym (row_more ways_meet way_pair x ys i y c.loop-y-test.true c.y-item.is))
+    rw (row_more ways_meet way_pair x ys i y c.loop-y-test.true c.y-item.is)
     (followed_then (ways_with x (take i ys)) (ways_with x (y ∷ [])) k c.loop-y.self.found.keys new.found.keys w c.loop-y.self.ways.items new.ways.items
     c.loop-y.invariant c.in_ok-follow_both.ensures.followed)

@@ -19,8 +19,8 @@ returns-clause-within c = λ n1 n2 h l r.
     subst (ArePairsWithin n1 n2) (sym c.in_ok-number.ensures.keys) (with_key_within _ c.args.self.now.found.keys c.args.pair n1 n2 h l r)
 
 pub returns-clause-only : goal.returns-clause-only
-returns-clause-only c = λ k h. with_key_only _ c.args.self.now.found.keys c.args.pair k (subst (λ (ks : List Pair). Has ks k) c.in_ok-number.ensures.keys h)
+returns-clause-only c = λ k h. with_key_only _ c.args.self.now.found.keys c.args.pair k (rw c.in_ok-number.ensures.keys at h)
 
 pub returns-clause-last : goal.returns-clause-last
 returns-clause-last c = λ p l m.
-    c.in_ok-number.ensures.index ∙ with_key_last _ c.args.self.now.found.keys c.args.pair p l (subst (λ (ks : List Pair). p < length ks) c.in_ok-number.ensures.keys m)
+    c.in_ok-number.ensures.index ∙ with_key_last _ c.args.self.now.found.keys c.args.pair p l (rw (← c.in_ok-number.ensures.keys) m)
