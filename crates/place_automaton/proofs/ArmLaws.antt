@@ -34,7 +34,7 @@ module _ (names : List VarName) where
       Has (map sides_of (in_turn (placers names ts) k)) P → AreDistinct P.null
   arms_distinct [] k ok P h = absurd h
   arms_distinct (t ∷ ts) k ok P (inl e) =
-      let all = ok t (inl refl) in subst (λ (P : Sides). AreDistinct P.null) e (null_set names t all.0 all.1 all.2 k).distinct
+      let all = ok t (inl refl) in rw (← e) (null_set names t all.0 all.1 all.2 k).distinct
   arms_distinct (t ∷ ts) k ok P (inr h) = arms_distinct ts (k + (places_of names t k).count) (λ u g. ok u (inr g)) P h
 
   -- arms that have come one after another, and are joined

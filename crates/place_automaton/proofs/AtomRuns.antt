@@ -334,8 +334,7 @@ module _ (s t : Bool) (P : Places) (lies : LiesFrom 1 P) (d : List ℕ) (w : ℕ
             let k : suc i + c.0 ≡ suc (i + c.0) = omega arith in
             let same : to_after ≡ c.3 = elim u.1 [ inl a ↦ a | inr b ↦ absurd b ] in
             let rest : Walk A.ways d w (suc (suc (i + c.0))) c.1 after x.state =
-            subst (λ v. Walk A.ways d w (suc v) c.1 after x.state) k
-            (subst (λ v. Walk A.ways d w (suc (suc i + c.0)) c.1 v x.state) (sym (ap (λ (g : Entry). g.to) same)) c.10) in
+            rw k at (rw (← (ap (λ (g : Entry). g.to) same)) at c.10) in
             let r = after_stays c.1 (suc (suc (i + c.0))) x.state rest in
             let z = ends_after x h r.0 in (
               i,
@@ -369,7 +368,7 @@ module _ (s t : Bool) (P : Places) (lies : LiesFrom 1 P) (d : List ℕ) (w : ℕ
   pub accepts_shown : Accepts A d w → PartIsShown
   accepts_shown h =
       let z : 0 ≡ h.0 = elim h.2 [ inl e ↦ e | inr b ↦ absurd b ] in
-      let walk : Walk A.ways d w 0 (length d) 0 h.1.state = subst (λ v. Walk A.ways d w 0 (length d) v h.1.state) (sym z) h.4 in
+      let walk : Walk A.ways d w 0 (length d) 0 h.1.state = rw (← z) at h.4 in
       elim (first_cross idle_ways A.ways here outs (λ x. x ≡ 0) d w before_split (length d) 0 0 h.1.state refl walk) [
         | inl r ↦ let k = before_idle (length d) 0 h.1.state r.0 in
             ends_before h.1 h.3 h.5 r.1 (λ p a b. k.1 p a (omega (arith, b))) k.2
@@ -383,14 +382,14 @@ module _ (s t : Bool) (P : Places) (lies : LiesFrom 1 P) (d : List ℕ) (w : ℕ
           let empties : Empties w 0 c.0 = λ p a b. idle.1 p a (omega (arith, b)) in
           let none : 0 ≡ c.2.marks = elim c.5 [ inl e ↦ ap (λ (g : Stop). g.marks) e | inr b ↦ absurd b ] in
           let em : c.3.marks ≡ w c.0 = omega (arith, c.7, ap w k, none) in
-          let rest : Walk A.ways d w (suc c.0) c.1 c.3.to h.1.state = subst (λ v. Walk A.ways d w (suc v) c.1 c.3.to h.1.state) k c.10 in
+          let rest : Walk A.ways d w (suc c.0) c.1 c.3.to h.1.state = rw (← k) c.10 in
           elim (Has-append_cases P.first (unless t (map null_entry P.null)) c.3 c.6) [
-            | inl f ↦ from_place c.0 c.1 c.3 h.1 c.4 idle.2 empties f em (subst (λ v. ReadsByte d v c.3.bytes) k c.8) rest h.3 h.5
+            | inl f ↦ from_place c.0 c.1 c.3 h.1 c.4 idle.2 empties f em (rw (← k) c.8) rest h.3 h.5
             | inr u ↦
                 let v = unless_cases t (map null_entry P.null) c.3 u in
                 let r = Has-map_cases null_entry P.null c.3 v.1 in
                 past_nothing c.0 c.1 r.0 h.1 v.0 c.4 idle.2 empties r.1 (ap (λ (g : Entry). g.marks) r.2 ∙ em)
-                (subst (λ y. Walk A.ways d w (suc c.0) c.1 y h.1.state) (sym (ap (λ (g : Entry). g.to) r.2)) rest) h.3 h.5
+                (rw (← (ap (λ (g : Entry). g.to) r.2)) at rest) h.3 h.5
           ]
 
   -- the other way round
@@ -399,7 +398,7 @@ module _ (s t : Bool) (P : Places) (lies : LiesFrom 1 P) (d : List ℕ) (w : ℕ
     before_walk i si l e = go s refl
       where
         go : (b : Bool) → s ≡ b → Walk A.ways d w 0 i 0 0
-        go true at = subst (λ n. Walk A.ways d w 0 n 0 0) (sym (si at)) refl
+        go true at = rw (si at) refl
         go false at = idle_walk A.ways d w 0 ok (idle_there at) i 0 (omega (arith, l)) (λ p a b. e p a (omega (arith, b)))
 
     after_walk : t ≡ false → (i n : ℕ) → i + n ≤ length d → Empties w i (i + n) → Walk A.ways d w i n after after
@@ -414,7 +413,7 @@ module _ (s t : Bool) (P : Places) (lies : LiesFrom 1 P) (d : List ℕ) (w : ℕ
         stops_left = Has-append_left (place_stops P) (unless t (record { state = after; marks = 0 } ∷ [])) x h
 
         here_at : j ≡ length d → Accepts A d w
-        here_at at = (0, x, inl refl, stops_left, subst (λ n. Walk A.ways d w 0 n 0 x.state) at walk, m ∙ ap w at)
+        here_at at = (0, x, inl refl, stops_left, rw (← at) walk, m ∙ ap w at)
 
         later : t ≡ false → j < length d → Accepts A d w
         later f less =
@@ -425,7 +424,7 @@ module _ (s t : Bool) (P : Places) (lies : LiesFrom 1 P) (d : List ℕ) (w : ℕ
               inl refl,
               Has-append_right (place_stops P) (unless t (record { state = after; marks = 0 } ∷ [])) (record { state = after; marks = 0 })
                   (unless_has t (record { state = after; marks = 0 } ∷ []) (record { state = after; marks = 0 }) f (inl refl)),
-              subst (λ n. Walk A.ways d w 0 n 0 after) len
+              rw (← len)
                   (walk_then A.ways d w j (suc (length d - suc j)) 0 j 0 x.state after zero_at walk (
                     way_after after x,
                     after_there f (way_after after x) (inr (Has-map (way_after after) (place_stops P) x h)),
@@ -456,13 +455,13 @@ module _ (s t : Bool) (P : Places) (lies : LiesFrom 1 P) (d : List ℕ) (w : ℕ
         go (inl a) =
             ends_at h.1 (stop_before (w h.0)) h.3 h.5
             (Has-append_right P.last (map stop_before P.null) (stop_before (w h.0)) (Has-map stop_before P.null (w h.0) a.1)) (ap w a.0) h.8
-            (subst (λ n. Walk A.ways d w 0 n 0 0) a.0 before)
+            (rw (← a.0) before)
         go (inr a) =
             let r = a.2 in
             let len : h.0 + suc a.0 ≡ h.1 = omega (arith, a.1) in
             let at : h.0 ≡ 0 + h.0 = omega arith in
             ends_at h.1 r.1 h.3 h.5 (Has-append_left P.last (map stop_before P.null) r.1 r.3) r.7 h.8
-            (subst (λ n. Walk A.ways d w 0 n 0 r.1.state) len
+            (rw (← len)
             (walk_then A.ways d w h.0 (suc a.0) 0 h.0 0 0 r.1.state at before (
               way_from_first r.0,
               first_there r.0 r.2,

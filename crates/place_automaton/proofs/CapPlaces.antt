@@ -59,7 +59,7 @@ module _ (names : List VarName) (x : VarName) (f : Tree) (ok : IsSequential (cap
   fine = fine_places names f ok.0 ord cl inside k
 
   marks : (m : ℕ) → MarkOf E m → Within (VarBits names f) m
-  marks m h = go (subst (λ (E : Sides). MarkOf E m) is h)
+  marks m h = go (rw is at h)
     where
       go : MarkOf (sides_of (places_of names f k)) m → Within (VarBits names f) m
       go (inl h) = fine.nulls m h

@@ -37,7 +37,7 @@ row_done r Ps W a b c xs p is row ends next ways =
     let N = nothing_placed 0 in
     let ways' = ways ∙ (ap (λ ws. ws ++ row_ways r xs nothing_sides) row.ways ∙ (ap (λ zs. (a.ways.items ++ follows Ps) ++ row_ways r zs nothing_sides) row.fragments
     ∙ (append_assoc a.ways.items (follows Ps) (row_ways r (map sides_of Ps) nothing_sides) ∙ ap (λ ws. a.ways.items ++ ws) (sym (row_follow r Ps N))))) in
-    subst (λ (V : Places). HasPlaced V a c p) (sym is) (record {
+    rw is (record {
       sides = ends ∙ (ap (λ zs. row_sides r zs nothing_sides) row.fragments ∙ sym (row_is r Ps N));
       next = omega (arith, next, row.next, row_count r Ps N);
       ways = ways';
@@ -56,7 +56,7 @@ module _ (names : List VarName) where
       let all : in_turn (placers (take (i + 1) ts)) k ≡ Ps ++ places_of names t b.next ∷ [] =
       ap (λ us. in_turn (placers us) k) (take_at_more ts i t at) ∙ (ap (λ Fs. in_turn Fs k) (map-append (places_of names) (take i ts) (t ∷ []))
       ∙ (in_turn_more (placers (take i ts)) (places_of names t) k ∙ ap (λ n. Ps ++ places_of names t n ∷ []) (sym here))) in
-      subst (λ Qs. IsRow Qs a c ys) (sym all) (row_more Ps (places_of names t b.next) a b c xs ys e row h is)
+      rw all (row_more Ps (places_of names t b.next) a b c xs ys e row h is)
 
   pub parts_joins : (ts : List Tree) → IsSequential (cat_all ts) → HasOrderedRepeats (cat_all ts) → HasClasses (cat_all ts) → AreNamed names (cat_all ts) → (k : ℕ) →
       RowJoins (length ts) (map sides_of (in_turn (placers ts) k)) nothing_sides
@@ -82,7 +82,7 @@ copies_next F i k a b c xs ys e from row h is =
     let Ps = copies F i k in
     let here : b.next ≡ k + total Ps = omega (arith, row.next, from) in
     let all : copies F (i + 1) k ≡ Ps ++ F b.next ∷ [] = copies_more F i k ∙ ap (λ n. Ps ++ F n ∷ []) (sym here) in
-    subst (λ Qs. IsRow Qs a c ys) (sym all) (row_more Ps (F b.next) a b c xs ys e row h is)
+    rw all (row_more Ps (F b.next) a b c xs ys e row h is)
 
 -- what an answer tells in one clause and in another
 pub ok_both : {A E : Type 0} (r : Result A E) (P R : A → Type 0) (Q : Type 0) → ((a : A) → P a → Q → R a) → IfOk r P → OnOk r Q → IfOk r R

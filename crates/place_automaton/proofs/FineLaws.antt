@@ -92,13 +92,13 @@ module _ (B C : Bits) (apart : Apart B C) (P Q : Places) (p : IsFine B P) (q : I
     ];
     first_bytes = λ e h. elim (Has-append_cases P.first (flat_map (λ m. map (entry_with m) Q.first) P.null) e h) [
       | inl a ↦ p.first_bytes e a
-      | inr b ↦ let r = entries_of P.null Q.first e b in subst (λ (e : Entry). SomeByte e.bytes) r.4 (q.first_bytes r.1 r.3)
+      | inr b ↦ let r = entries_of P.null Q.first e b in rw (← r.4) (q.first_bytes r.1 r.3)
     ];
     way_bytes = λ y h. elim (Has-append_cases P.follow (Q.follow ++ ways_between P.last Q.first) y h) [
       | inl a ↦ p.way_bytes y a
       | inr b ↦ elim (Has-append_cases Q.follow (ways_between P.last Q.first) y b) [
         | inl a ↦ q.way_bytes y a
-        | inr c ↦ let r = ways_of P.last Q.first y c in subst (λ (y : Way). SomeByte y.bytes) r.4 (q.first_bytes r.1 r.3)
+        | inr c ↦ let r = ways_of P.last Q.first y c in rw (← r.4) (q.first_bytes r.1 r.3)
       ]
     ];
   }
@@ -166,7 +166,7 @@ fine_one B bytes k some = record {
   firsts = λ e h. elim h [ inl a ↦ zero_within B e.marks (ap (λ (e : Entry). e.marks) a) | inr b ↦ absurd b ];
   lasts = λ s h. elim h [ inl a ↦ zero_within B s.marks (ap (λ (s : Stop). s.marks) a) | inr b ↦ absurd b ];
   ways = λ y h. absurd h;
-  first_bytes = λ e h. elim h [ inl a ↦ subst (λ (e : Entry). SomeByte e.bytes) a some | inr b ↦ absurd b ];
+  first_bytes = λ e h. elim h [ inl a ↦ rw (← a) some | inr b ↦ absurd b ];
   way_bytes = λ y h. absurd h;
 }
 
@@ -191,7 +191,7 @@ fine_cap B o c P ao ac own p = record {
         | inr y ↦ inl (inr y)
       ];
   ways = λ y h i b. inr (p.ways y h i b);
-  first_bytes = λ e h. let r = Has-map_cases (entry_with o) P.first e h in subst (λ (e : Entry). SomeByte e.bytes) r.2 (p.first_bytes r.0 r.1);
+  first_bytes = λ e h. let r = Has-map_cases (entry_with o) P.first e h in rw (← r.2) (p.first_bytes r.0 r.1);
   way_bytes = p.way_bytes;
 }
 
@@ -214,7 +214,7 @@ module _ (B : Bits) (none : (i : ℕ) → B i → ⊥) where
     first_bytes = p.first_bytes;
     way_bytes = λ y h. elim (Has-append_cases P.follow (ways_between P.last P.first) y h) [
       | inl a ↦ p.way_bytes y a
-      | inr b ↦ let r = ways_of P.last P.first y b in subst (λ (y : Way). SomeByte y.bytes) r.4 (p.first_bytes r.1 r.3)
+      | inr b ↦ let r = ways_of P.last P.first y b in rw (← r.4) (p.first_bytes r.1 r.3)
     ];
   }
 
@@ -305,7 +305,7 @@ module _ (names : List VarName) where
       ((k : ℕ) → IsFine (VarBits f) (F k)) → (k : ℕ) → IsFine (VarBits f) (repeated n most F k)
   fine_repeat f n most F (inl none) le all k = fine_repeated (VarBits f) (λ i b. none b.0 b.1) n most F all k
   fine_repeat f n most F (inr e) le all k =
-      subst (λ (P : Places). IsFine (VarBits f) P) (sym (ap (λ o. repeated n o F k) e ∙ once_is n F k (le 1 e))) (once (n == 0))
+      rw (ap (λ o. repeated n o F k) e ∙ once_is n F k (le 1 e)) (once (n == 0))
     where
       once : (b : Bool) → IsFine (VarBits f) (if b then opt_places (F k) else F k)
       once true = fine_opt (VarBits f) (F k) (all k)

@@ -56,7 +56,7 @@ module _ (opening closing : VarName → ℕ) (d : List ℕ) where
     -- a blank piece can be joined to any other
     module _ (blank : IsBlank opening closing d X) where
       blank_join : (Y : Piece) → Join X Y
-      blank_join Y i k j m n x y = subst (λ c. AreApart c n) (sym (blank i k m x)) (no_captures opening closing d n)
+      blank_join Y i k j m n x y = rw (blank i k m x) (no_captures opening closing d n)
 
       shows_copies : (G : Placed) (Y : Piece) → LieInPlace G → Ends Y → Outside Y → ((k : ℕ) → Show (G k) Y) →
           (n k : ℕ) → Show (copies_then n F G k) (CopiesThen X n Y)
@@ -168,7 +168,7 @@ module _ (opening closing : VarName → ℕ) (d : List ℕ) where
 
     -- once at most: the piece may capture
     nothing_joins : Join X Nothing
-    nothing_joins i k j m n x y v a b = subst (λ c. Captured c v) y.1 b
+    nothing_joins i k j m n x y v a b = rw y.1 at b
 
     shows_once : (k : ℕ) → Show (cat_placed F nothing_placed k) (Then X Nothing)
     shows_once k =

@@ -36,7 +36,7 @@ pub front_countable : (names : List VarName) (ts : List Tree) (k : ℕ) (t : Tre
 front_countable names ts k t at ok =
     let us = drop (k + 1) ts in
     let e : ts ≡ take k ts ++ t ∷ us = sym (take-append-drop k ts) ∙ ap (λ vs. take k ts ++ vs) (at_drop ts k t at) in
-    let all = subst (λ vs. IsCountable names (cat_all vs)) e ok in (
+    let all = rw e at ok in (
       front_sequential (take k ts) t us all.0,
       front_ordered (take k ts) t us all.1,
       λ x h. all.2 x (elim h [ inl a ↦ front_var (take k ts) t us x a | inr b ↦ next_var (take k ts) t us x b ]),

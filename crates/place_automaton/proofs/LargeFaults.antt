@@ -54,10 +54,10 @@ handed_on P (Err g) e h p = subst P (sym h) p
 -- over the formula's own variables
 pub null_within : (f : Tree) (names : List VarName) (r : Result Numbers CountFault) → names ≡ with_vars [] f →
     OnOk r (largest_null_over names f ≤ MOST_SETS) → OnOk r (has_large_null f ≡ false)
-null_within f names (Ok n) is small = le-ltb MOST_SETS (largest_null_over (with_vars [] f) f) (subst (λ ns. largest_null_over ns f ≤ MOST_SETS) is small)
+null_within f names (Ok n) is small = le-ltb MOST_SETS (largest_null_over (with_vars [] f) f) (rw (← is) small)
 null_within f names (Err e) is small = tt
 
 pub null_past : (f : Tree) (names : List VarName) (r : Result Numbers CountFault) → names ≡ with_vars [] f →
     IfErr r (IsLargeFault (largest_null_over names f)) → IfErr r (λ e. e ≡ LargeNull → has_large_null f ≡ true)
 null_past f names (Ok n) is large = tt
-null_past f names (Err e) is large = λ same. lt-ltb MOST_SETS (largest_null_over (with_vars [] f) f) (subst (λ ns. MOST_SETS < largest_null_over ns f) is (large same))
+null_past f names (Err e) is large = λ same. lt-ltb MOST_SETS (largest_null_over (with_vars [] f) f) (rw (← is) (large same))

@@ -154,7 +154,7 @@ module _ (names : List VarName) where
           LastSet (VarBits names f) (repeated n o (P f) k).last
       by n o (inl none) le s f' = last_repeated (VarBits names f) (λ i b. none b.0 b.1) n o (P f) (lie f) plus s f' k
       by n o (inr e) le s f' =
-          subst (λ (o : Option ℕ). LastSet (VarBits names f) (repeated n o (P f) k).last) (sym e) (last_once (VarBits names f) n (P f) (le 1 e) (lie f) f' k)
+          rw e (last_once (VarBits names f) n (P f) (le 1 e) (lie f) f' k)
   last_set (cap x f) ok ord vars k =
       let c = closing_of names x in
       let nf : AreNamed names f = λ y h. vars y (inr h) in

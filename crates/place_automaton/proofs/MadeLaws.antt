@@ -66,7 +66,7 @@ module _ (names : List VarName) (a : AtomTree) where
   pub after_way : (n : ℕ) → n ≡ 1 + P.count → t ≡ false → Has A.ways (idle_way n)
   after_way n at e =
       let same : suc P.count ≡ n = omega (arith, at) in
-      subst (λ (m : ℕ). Has A.ways (idle_way m)) same
+      rw (← same)
       (Has-append_right P.follow (map way_from_first P.first ++ (unless s (idle_way 0 ∷ []) ++ outs)) (idle_way (suc P.count))
       (Has-append_right (map way_from_first P.first) (unless s (idle_way 0 ∷ []) ++ outs) (idle_way (suc P.count))
       (Has-append_right (unless s (idle_way 0 ∷ [])) outs (idle_way (suc P.count)) (unless_has t (after_ways (suc P.count) P) (idle_way (suc P.count)) e (inl refl)))))
@@ -74,7 +74,7 @@ module _ (names : List VarName) (a : AtomTree) where
   -- an end of a place, or of Before, is one of the automaton
   pub stop_there : (E : Sides) (x : Stop) → E ≡ sides_of P → Has (end_stops E) x → Has A.stops x
   stop_there E x is h =
-      Has-append_left (place_stops P) (unless t (record { state = suc P.count; marks = 0 } ∷ [])) x (subst (λ (E : Sides). Has (end_stops E) x) is h)
+      Has-append_left (place_stops P) (unless t (record { state = suc P.count; marks = 0 } ∷ [])) x (rw is at h)
 
   module _ (ok : IsSequential f) (ord : HasOrderedRepeats f) (cl : HasClasses f) (vars : AreNamed names f) where
     fine : IsFine (VarBits names f) P
@@ -137,12 +137,12 @@ module _ (names : List VarName) (a : AtomTree) where
 
 -- what rearranges an automaton rearranges those with the same graph and the same idle states
 reached_same : (B C : Automaton) → B.starts ≡ C.starts → B.ways ≡ C.ways → (n p : ℕ) → IsReachedIn C n p → IsReachedIn B n p
-reached_same B C st wy zero p h = subst (λ (xs : List ℕ). Has xs p) (sym st) h
-reached_same B C st wy (suc n) p h = (h.0, subst (λ (ws : List Way). Has ws h.0) (sym wy) h.1, reached_same B C st wy n h.0.from h.2, h.3)
+reached_same B C st wy zero p h = rw st h
+reached_same B C st wy (suc n) p h = (h.0, rw wy h.1, reached_same B C st wy n h.0.from h.2, h.3)
 
 pub rearranges_like : (A B C : Automaton) → Rearranges A B → C.states ≡ B.states → C.starts ≡ B.starts → C.ways ≡ B.ways → C.stops ≡ B.stops →
     ((p : ℕ) → Has B.idle p ↔ Has C.idle p) → Rearranges A C
-rearranges_like A B C r e0 e1 e2 e3 idle = subst (λ (D : Automaton). Rearranges A D) same (r.0, reduct)
+rearranges_like A B C r e0 e1 e2 e3 idle = rw (← same) (r.0, reduct)
   where
     D : Automaton
     D = record { states = B.states; starts = B.starts; ways = B.ways; stops = B.stops; idle = C.idle }

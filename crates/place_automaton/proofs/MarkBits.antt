@@ -60,7 +60,7 @@ below_power m k low =
     let bit : HasBit m (k + j) = ap (λ n. bit_at n (k + j)) (sym parts) ∙ (at ∙ (ap (bit_at (m / 2 ^ k)) (let e : (k + j) - k ≡ j = omega arith in e) ∙ h)) in
     omega (arith, low (k + j) bit)) in
     let whole : m % 2 ^ k ≡ m = (let e : m % 2 ^ k ≡ 0 * 2 ^ k + m % 2 ^ k = omega arith in e) ∙ (ap (λ q. q * 2 ^ k + m % 2 ^ k) (sym high) ∙ parts) in
-    subst (λ n. n < 2 ^ k) whole rest
+    rw (← whole) rest
 
 pow_bit : (k i : ℕ) → HasBit (2 ^ k) i → i ≡ k
 pow_bit k i h = elim (cases_eq i k) [ inl e ↦ e | inr ne ↦ absurd (omega (arith, h, bit_at-pow_other k i ne)) ]

@@ -196,5 +196,5 @@ module _ (F : Placed) (k : ℕ) where
         froms = λ y h. (lies.froms y h).1;
         tos = λ y h. (lies.tos y h).1;
       } in
-      subst (λ (m : ℕ). LieBelow m x ws) (sym at) (subst (λ (E : Sides). LieBelow (k + (F k).count) E ws) (sym is)
-      (subst (λ (us : List Way). LieBelow (k + (F k).count) (sides_of (F k)) us) (sym are) here))
+      rw at (rw is
+      (rw are here))

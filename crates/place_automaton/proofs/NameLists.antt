@@ -42,7 +42,7 @@ vars_there alt_end names x h = absurd h
 vars_there (alt f rest) names x (inl h) = vars_keep rest (with_vars names f) x (vars_there f names x h)
 vars_there (alt f rest) names x (inr h) = vars_there rest (with_vars names f) x h
 vars_there (rep f least most) names x h = vars_there f names x h
-vars_there (cap y f) names x (inl e) = vars_keep f (with_name y names) x (subst (λ z. Has (with_name y names) z) e (with_here y names))
+vars_there (cap y f) names x (inl e) = vars_keep f (with_name y names) x (rw (← e) (with_here y names))
 vars_there (cap y f) names x (inr h) = vars_there f (with_name y names) x h
 
 vars_cases : (f : Tree) (names : List VarName) (x : VarName) → Has (with_vars names f) x → Has names x ⊎ HasVar f x
@@ -75,7 +75,7 @@ pub list_ascends : (f : Tree) → Ascending (with_vars [] f)
 list_ascends f = vars_ascend f [] none_are_variables.ascending
 
 pub vars_named : (f : Tree) (names : List VarName) → names ≡ with_vars [] f → AreNamed names f
-vars_named f names is x v = subst (λ (ns : List VarName). Has ns x) (sym is) ((vars_are f x).1 v)
+vars_named f names is x v = rw is ((vars_are f x).1 v)
 
 pub same_places : (names : List VarName) (f : Tree) → names ≡ with_vars [] f → (counts_over names f).places ≡ (counts_over (with_vars [] f) f).places
 same_places names f is = ap (λ (ns : List VarName). (counts_over ns f).places) is

@@ -24,7 +24,7 @@ IsCountable names f = IsSequential f × HasOrderedRepeats f × AreNamed names f
 
 null_within : (names : List VarName) (f : Tree) → IsCountable names f → (m : ℕ) → Has (counts_over names f).null m → Within (VarBits names f) m
 null_within names f ok m h =
-    (null_set names f ok.0 ok.1 ok.2 1).within m (subst (λ ms. Has ms m) (sym (lengths (opening_of names) (closing_of names) f 1).null) h)
+    (null_set names f ok.0 ok.1 ok.2 1).within m (rw (lengths (opening_of names) (closing_of names) f 1).null h)
 
 -- none is there twice
 pub null_distinct : (names : List VarName) (f : Tree) → IsCountable names f → AreDistinct (counts_over names f).null

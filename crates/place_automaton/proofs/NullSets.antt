@@ -188,7 +188,7 @@ module _ (names : List VarName) where
       by : (n : ℕ) (o : Option ℕ) → HasNoVar f ⊎ (o ≡ Some 1) → ForSome o (λ b. n ≤ b) → AreSets (VarBits names f) (P f) → NullSet (VarBits names f) (repeated n o (P f) k).null
       by n o (inl none) le s = set_repeated (VarBits names f) (λ i b. none b.0 b.1) n o (P f) s k
       by n o (inr e) le s =
-          subst (λ (o : Option ℕ). NullSet (VarBits names f) (repeated n o (P f) k).null) (sym e) (set_once (VarBits names f) n (P f) (le 1 e) s k)
+          rw e (set_once (VarBits names f) n (P f) (le 1 e) s k)
   null_set (cap x f) ok ord vars k =
       let o = opening_of names x in
       let c = closing_of names x in

@@ -145,12 +145,12 @@ module _ (P Q : Places) (d : List ℕ) where
 
         from_q : (m : ℕ) × (g : Entry) × Has P.null m × Has Q.first g × (entry_with m g ≡ h.0) → CatCases i n a w z
         from_q r =
-            let walk = in_q i n r.1 r.3 (subst (λ (e : Entry). Walk (cat_places P Q).follow d w (suc i) n e.to h.1.state) (sym r.4) h.6) in
+            let walk = in_q i n r.1 r.3 (rw (← r.4) at h.6) in
             inl (
               r.0,
               r.1.marks,
               r.2,
-              (r.1, h.1, r.3, walk.1, refl, subst (λ (e : Entry). ReadsByte d i e.bytes) (sym r.4) h.5, walk.0, h.7),
+              (r.1, h.1, r.3, walk.1, refl, rw (← r.4) at h.5, walk.0, h.7),
               ap (λ (e : Entry). e.marks) r.4 ∙ h.4,
             )
 
@@ -164,14 +164,14 @@ module _ (P Q : Places) (d : List ℕ) where
                   inr (inl (
                     s.1.marks,
                     s.0,
-                    (h.0, s.1, f, s.3, h.4, h.5, subst (λ (g : Stop). Walk P.follow d w (suc i) n h.0.to g.state) (sym s.4) r.0, refl),
+                    (h.0, s.1, f, s.3, h.4, h.5, rw (← s.4) at r.0, refl),
                     s.2,
                     ap (λ (g : Stop). g.marks) s.4 ∙ h.7,
                   ))
             ]
         from_p f (inr c) =
             let e : suc i + c.0 ≡ suc (i + c.0) = omega arith in
-            let walk = in_q (suc (i + c.0)) c.1 c.3 c.6 (subst (λ x. Walk (cat_places P Q).follow d w (suc x) c.1 c.3.to h.1.state) e c.10) in
+            let walk = in_q (suc (i + c.0)) c.1 c.3 c.6 (rw (← e) c.10) in
             inr (inr (
               c.0,
               c.1,
@@ -179,7 +179,7 @@ module _ (P Q : Places) (d : List ℕ) where
               c.3.marks,
               c.4,
               (h.0, c.2, f, c.5, h.4, h.5, c.9, refl),
-              (c.3, h.1, c.6, walk.1, refl, subst (λ x. ReadsByte d x c.3.bytes) e c.8, walk.0, h.7),
+              (c.3, h.1, c.6, walk.1, refl, rw (← e) c.8, walk.0, h.7),
               c.7 ∙ ap w e,
             ))
 
@@ -253,8 +253,8 @@ module _ (P : Places) (d : List ℕ) where
               c.6,
               h.3,
               refl,
-              subst (λ x. ReadsByte d x c.3.bytes) e c.8,
-              subst (λ x. Walk (plus_places P).follow d w (suc x) c.1 c.3.to h.1.state) e c.10,
+              rw (← e) c.8,
+              rw (← e) c.10,
               h.7,
             ),
             c.7 ∙ ap w e,
@@ -287,9 +287,9 @@ module _ (o c : ℕ) (P : Places) (d : List ℕ) where
           e.1,
           s.1,
           refl,
-          subst (λ (g : Entry). ReadsByte d i g.bytes) (sym e.2) h.5,
+          rw (← e.2) at h.5,
           subst (λ (g : Entry). Walk P.follow d w (suc i) n g.to s.0.state) (sym e.2)
-              (subst (λ (g : Stop). Walk P.follow d w (suc i) n h.0.to g.state) (sym s.2) h.6),
+              (rw (← s.2) at h.6),
           refl,
         ),
         ap (λ (g : Entry). g.marks) e.2 ∙ h.4,

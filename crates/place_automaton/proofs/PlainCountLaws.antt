@@ -114,11 +114,11 @@ abbrev LieWithin : Captures → ℕ → ℕ → Type 0
 LieWithin m i j = (c : VarName × Span) → Has m c → (i ≤ c.1.start) × (c.1.end ≤ j) × (c.1.start ≤ c.1.end)
 
 nothing_lies_within : (m : Captures) (i j : ℕ) → m ≡ [] → LieWithin m i j
-nothing_lies_within m i j e c h = absurd (subst (λ (m : Captures). Has m c) e h)
+nothing_lies_within m i j e c h = absurd (rw e at h)
 
 append_within : (m n t : Captures) (i k j : ℕ) → i ≤ k → k ≤ j → LieWithin m i k → LieWithin n k j → t ≡ m ++ n → LieWithin t i j
 append_within m n t i k j a b lm ln e c h =
-    elim (Has-append_cases m n c (subst (λ (t : Captures). Has t c) e h)) [
+    elim (Has-append_cases m n c (rw (← e) h)) [
       | inl x ↦ let r = lm c x in (r.0, omega (arith, r.1, b), r.2)
       | inr x ↦ let r = ln c x in (omega (arith, r.0, a), r.1, r.2)
     ]
@@ -139,7 +139,7 @@ fit_spans alt_end d i j m h = absurd h
 fit_spans (alt f rest) d i j m (inl h) = fit_spans f d i j m h
 fit_spans (alt f rest) d i j m (inr h) = fit_spans rest d i j m h
 fit_spans (rep f least most) d i j m h = times_within_part (Fit f d) (fit_le f d) (fit_spans f d) h.0 i j m h.3
-fit_spans (cap x f) d i j m h = λ c k. go c (subst (λ (m : Captures). Has m c) h.6 k) (fit_spans f d i j h.1 h.4) (fit_le f d i j h.1 h.4)
+fit_spans (cap x f) d i j m h = λ c k. go c (rw h.6 at k) (fit_spans f d i j h.1 h.4) (fit_le f d i j h.1 h.4)
   where
     go : (c : VarName × Span) → Has ((x, h.0) ∷ h.1) c → LieWithin h.1 i j → i ≤ j → (i ≤ c.1.start) × (c.1.end ≤ j) × (c.1.start ≤ c.1.end)
     go c (inl e) rest le =

@@ -54,7 +54,7 @@ cat_lies k P Q p q = record { firsts = firsts; lasts = lasts; froms = froms; tos
     right x h = (omega (arith, h.0), omega (arith, h.1))
 
     moved : (x y : ℕ) → x ≡ y → (k ≤ x) × (x < k + (P.count + Q.count)) → (k ≤ y) × (y < k + (P.count + Q.count))
-    moved x y e h = subst (λ z. (k ≤ z) × (z < k + (P.count + Q.count))) e h
+    moved x y e h = rw (← e) h
 
     firsts : (e : Entry) → Has (cat_places P Q).first e → (k ≤ e.to) × (e.to < k + (P.count + Q.count))
     firsts e h =
@@ -118,21 +118,21 @@ plus_lies k P p = record {
   froms = λ y h. elim (Has-append_cases P.follow (ways_between P.last P.first) y h) [
     | inl a ↦ p.froms y a
     | inr b ↦ let r = ways_of P.last P.first y b in
-        subst (λ z. (k ≤ z) × (z < k + P.count)) (ap (λ (g : Way). g.from) r.4) (p.lasts r.0 r.2)
+        rw (← (ap (λ (g : Way). g.from) r.4)) (p.lasts r.0 r.2)
   ];
   tos = λ y h. elim (Has-append_cases P.follow (ways_between P.last P.first) y h) [
     | inl a ↦ p.tos y a
     | inr b ↦ let r = ways_of P.last P.first y b in
-        subst (λ z. (k ≤ z) × (z < k + P.count)) (ap (λ (g : Way). g.to) r.4) (p.firsts r.1 r.3)
+        rw (← (ap (λ (g : Way). g.to) r.4)) (p.firsts r.1 r.3)
   ];
 }
 
 pub cap_lies : (o c k : ℕ) (P : Places) → LiesFrom k P → LiesFrom k (cap_places o c P)
 cap_lies o c k P p = record {
   firsts = λ e h. let r = Has-map_cases (entry_with o) P.first e h in
-      subst (λ z. (k ≤ z) × (z < k + P.count)) (ap (λ (g : Entry). g.to) r.2) (p.firsts r.0 r.1);
+      rw (← (ap (λ (g : Entry). g.to) r.2)) (p.firsts r.0 r.1);
   lasts = λ s h. let r = Has-map_cases (stop_with c) P.last s h in
-      subst (λ z. (k ≤ z) × (z < k + P.count)) (ap (λ (g : Stop). g.state) r.2) (p.lasts r.0 r.1);
+      rw (← (ap (λ (g : Stop). g.state) r.2)) (p.lasts r.0 r.1);
   froms = p.froms;
   tos = p.tos;
 }

@@ -50,13 +50,13 @@ flat_is k P lies none small zeros = go P.null refl
     go : (ns : List ℕ) → P.null ≡ ns → (a : Bool) × (P ≡ flat a)
     go [] e = (false, λ i. record { count = none i; null = e i; first = first i; last = last i; follow = follow i })
     go (n ∷ []) e =
-        let z : 0 ≡ n = zeros n (subst (λ ms. Has ms n) (sym e) (inl refl)) in
+        let z : 0 ≡ n = zeros n (rw e (inl refl)) in
         let f : P.null ≡ 0 ∷ [] = e ∙ ap (λ x. x ∷ []) (sym z) in
         (true, λ i. record { count = none i; null = f i; first = first i; last = last i; follow = follow i })
     go (n ∷ m ∷ ns) e =
         let d : AreDistinct (n ∷ m ∷ ns) = subst AreDistinct e small in
-        let zn : 0 ≡ n = zeros n (subst (λ ms. Has ms n) (sym e) (inl refl)) in
-        let zm : 0 ≡ m = zeros m (subst (λ ms. Has ms m) (sym e) (inr (inl refl))) in
+        let zn : 0 ≡ n = zeros n (rw e (inl refl)) in
+        let zm : 0 ≡ m = zeros m (rw e (inr (inl refl))) in
         absurd (d.0 (inl (sym zm ∙ zn)))
 
 module _ (F : Placed) (k : ℕ) (a : Bool) (is : F k ≡ flat a) where
@@ -140,7 +140,7 @@ flat_done F k least most a b e r lies small zeros h same is =
     let none : (F k).count ≡ 0 = omega (arith, h.next, same) in
     let f = flat_is k (F k) lies none small zeros in
     let fits = may_be F k f.0 f.1 least in
-    subst (λ (W : Places). HasPlaced W a b r) (sym (flat_repeated F k f.0 f.1 least most)) (record {
+    rw (flat_repeated F k f.0 f.1 least most) (record {
       sides = is ∙ (ap (λ (E : Sides). if least == 0 then opt_sides E else E) (h.sides ∙ ap sides_of f.1) ∙ sides_flat (least == 0) f.0);
       next = omega (arith, same, flat_count fits);
       ways = h.ways ∙ (ap (λ ws. a.ways.items ++ ws) (ap (λ (P : Places). P.follow) f.1 ∙ flat_follow f.0) ∙ ap (λ ws. a.ways.items ++ ws) (sym (flat_follow fits)));
@@ -155,7 +155,7 @@ none_placed F k (suc n) (Some m) e le = absurd (omega (arith, e, le m refl))
 
 pub nothing_done : (W : Places) (d : Draft) (e : Sides) → W ≡ nothing_placed 0 → e ≡ sides_of (nothing_placed 0) → HasPlaced W d d e
 nothing_done W d e is h =
-    subst (λ (V : Places). HasPlaced V d d e) (sym is) (record { sides = h; next = omega arith; ways = sym (append-nil d.ways.items) })
+    rw is (record { sides = h; next = omega arith; ways = sym (append-nil d.ways.items) })
 
 -- a part that may be left out, or may not
 pub once_done : (b : Bool) (P : Places) (a c : Draft) (e p : Sides) → HasPlaced P a c e → p ≡ (if b then opt_sides e else e) → HasPlaced (if b then opt_places P else P) a c p

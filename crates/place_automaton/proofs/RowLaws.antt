@@ -36,15 +36,15 @@ module _ (r k : ℕ) (P : Sides) (Ps : List Sides) (Q : Sides) where
   next_ways = ap (λ n. row_ways n Ps Q ++ ways_between P.last (row_sides n Ps Q).first) less_left
 
   pub next_joins : RowJoins (r - k) (P ∷ Ps) Q → JoinAsSums P Rest
-  next_joins h = subst (λ m. JoinAsSums P (row_sides m Ps Q)) less_left h.0
+  next_joins h = rw (← less_left) h.0
 
 -- the parts that are left
 pub row_joins_rest : (r : ℕ) (Ps Qs : List Sides) (Q : Sides) → RowJoins r (Ps ++ Qs) Q → RowJoins (r - length Ps) Qs Q
-row_joins_rest r [] Qs Q h = subst (λ n. RowJoins n Qs Q) (let e : r ≡ r - 0 = omega arith in e) h
+row_joins_rest r [] Qs Q h = rw (← (let e : r ≡ r - 0 = omega arith in e)) h
 row_joins_rest zero (P ∷ Ps) Qs Q h =
-    subst (λ n. RowJoins n Qs Q) (let e : 0 - length Ps ≡ 0 - suc (length Ps) = omega arith in e) (row_joins_rest zero Ps Qs Q h.1)
+    rw (← (let e : 0 - length Ps ≡ 0 - suc (length Ps) = omega arith in e)) (row_joins_rest zero Ps Qs Q h.1)
 row_joins_rest (suc r) (P ∷ Ps) Qs Q h =
-    subst (λ n. RowJoins n Qs Q) (let e : r - length Ps ≡ suc r - suc (length Ps) = omega arith in e) (row_joins_rest r Ps Qs Q h.1)
+    rw (← (let e : r - length Ps ≡ suc r - suc (length Ps) = omega arith in e)) (row_joins_rest r Ps Qs Q h.1)
 
 -- one part is taken from the end of those that wait
 module _ (r : ℕ) (all now new done : List Sides) (P Q : Sides) (whole : all ≡ now ++ done) (taken : now ≡ new ++ P ∷ []) where
@@ -61,7 +61,7 @@ module _ (r : ℕ) (all now new done : List Sides) (P Q : Sides) (whole : all �
   taken_ways = ap (λ n. row_ways (r - n) done Q) taken_length
 
   pub taken_joins : RowJoins r all Q → RowJoins (r - length new) (P ∷ done) Q
-  taken_joins h = row_joins_rest r new (P ∷ done) Q (subst (λ ps. RowJoins r ps Q) taken_whole h)
+  taken_joins h = row_joins_rest r new (P ∷ done) Q (rw (← taken_whole) h)
 
 pub next_row : (r k : ℕ) (P : Sides) (Ps : List Sides) (Q : Sides) (b : Bool) → b ≡ nat_le r k →
     (if b then opt_sides (cat_sides P (row_sides (r - suc k) Ps Q)) else cat_sides P (row_sides (r - suc k) Ps Q)) ≡ row_sides (r - k) (P ∷ Ps) Q

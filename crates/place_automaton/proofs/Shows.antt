@@ -133,7 +133,7 @@ module _ (opening closing : VarName → ℕ) (d : List ℕ) where
       reads i zero a w z h =
           let f = only_one (record { marks = 0; bytes = set; to = k }) h.0 h.2 in
           let l = only_one (record { state = k; marks = 0 }) h.1 h.3 in
-          let byte : ReadsByte d i set = subst (λ (g : Entry). ReadsByte d i g.bytes) (sym f) h.5 in (
+          let byte : ReadsByte d i set = rw (← f) at h.5 in (
             [],
             (byte.0, byte.1, byte.2, omega arith, refl),
             ap (λ (g : Entry). g.marks) f ∙ h.4,
@@ -158,10 +158,10 @@ module _ (opening closing : VarName → ℕ) (d : List ℕ) where
               inl (
                 a.0 ∙ b.0,
                 subst (Has (sums P.null Q.null)) (sym (s i))
-                    (has_sums P.null Q.null (B h.1 i) (B h.2 i) a.1 (subst (λ x. Has Q.null (B h.2 x)) (sym a.0) b.1)),
+                    (has_sums P.null Q.null (B h.1 i) (B h.2 i) a.1 (rw a.0 b.1)),
               )
           go (inl a) (inr b) =
-              let r : Reads Q d i b.0 (B h.2 i) (B h.2) (B h.2 j) = subst (λ x. Reads Q d x b.0 (B h.2 x) (B h.2) (B h.2 j)) (sym a.0) b.2 in
+              let r : Reads Q d i b.0 (B h.2 i) (B h.2) (B h.2 j) = rw a.0 b.2 in
               inr (
                 b.0,
                 omega (arith, a.0, b.1),
@@ -171,8 +171,8 @@ module _ (opening closing : VarName → ℕ) (d : List ℕ) where
                     (reads_after_null P Q d i b.0 (B h.1 i) (B h.2 i) (B h.2) (B h.2 j) a.1 r),
               )
           go (inr a) (inl b) =
-              let nul : Has Q.null (B h.2 j) = subst (λ x. Has Q.null (B h.2 x)) b.0 b.1 in
-              let r : Reads P d i a.0 (B h.1 i) (B h.1) (B h.1 j) = subst (λ x. Reads P d i a.0 (B h.1 i) (B h.1) (B h.1 x)) b.0 a.2 in
+              let nul : Has Q.null (B h.2 j) = rw (← b.0) b.1 in
+              let r : Reads P d i a.0 (B h.1 i) (B h.1) (B h.1 j) = rw (← b.0) a.2 in
               inr (
                 a.0,
                 omega (arith, a.1, b.0),
@@ -184,9 +184,9 @@ module _ (opening closing : VarName → ℕ) (d : List ℕ) where
               )
           go (inr a) (inr b) =
               let r : Reads Q d (suc (i + a.0)) b.0 (B h.2 (suc (i + a.0))) (B h.2) (B h.2 j) =
-              subst (λ x. Reads Q d x b.0 (B h.2 x) (B h.2) (B h.2 j)) a.1 b.2 in
+              rw (← a.1) b.2 in
               let t : Reads P d i a.0 (B h.1 i) (B h.1) (B h.1 (suc (i + a.0))) =
-              subst (λ x. Reads P d i a.0 (B h.1 i) (B h.1) (B h.1 x)) a.1 a.2 in
+              rw (← a.1) a.2 in
               let sm = s (suc (i + a.0)) in
               inr (
                 a.0 + suc b.0,
@@ -240,7 +240,7 @@ module _ (opening closing : VarName → ℕ) (d : List ℕ) where
                   let y = sy.reads (suc (i + r.0)) r.1 r.3 w z r.6 in
                   let s = blocks_append opening closing x.0 y.0 in
                   let e : suc (suc (i + r.0) + r.1) ≡ suc (i + n) = omega (arith, r.4) in
-                  let fits : Y (suc (i + r.0)) (suc (i + n)) y.0 = subst (λ t. Y (suc (i + r.0)) t y.0) e y.1 in
+                  let fits : Y (suc (i + r.0)) (suc (i + n)) y.0 = rw (← e) y.1 in
                   let at_end : B y.0 (suc (i + n)) ≡ z = sym (ap (B y.0) e) ∙ y.3 in (
                     x.0 ++ y.0,
                     (suc (i + r.0), x.0, y.0, x.1, fits, join i (suc (i + r.0)) (suc (i + n)) x.0 y.0 x.1 fits, refl),
@@ -327,7 +327,7 @@ module _ (opening closing : VarName → ℕ) (d : List ℕ) where
   module _ (P : Places) (X : Piece) (blank : IsBlank X) (sx : Shows P X) where
     plus_shown : (c i j : ℕ) → Times X (suc c) i j [] → Shown (plus_places P) d i j (B [])
     plus_shown zero i j h =
-        let x : X i j [] = subst (λ t. X i t []) h.4.0 (subst (X i h.0) (blank i h.0 h.1 h.3) h.3) in
+        let x : X i j [] = rw (← h.4.0) (subst (X i h.0) (blank i h.0 h.1 h.3) h.3) in
         go (sx.shown i j [] x)
       where
         go : Shown P d i j (B []) → Shown (plus_places P) d i j (B [])
@@ -339,14 +339,14 @@ module _ (opening closing : VarName → ℕ) (d : List ℕ) where
         go (sx.shown i h.0 [] x) (plus_shown c h.0 j y)
       where
         go : Shown P d i h.0 (B []) → Shown (plus_places P) d h.0 j (B []) → Shown (plus_places P) d i j (B [])
-        go (inl a) r = subst (λ t. Shown (plus_places P) d t j (B [])) (sym a.0) r
+        go (inl a) r = rw a.0 r
         go (inr a) (inl b) =
             inr (a.0, omega (arith, a.1, b.0), reads_once P d i a.0 0 (B []) 0 a.2)
         go (inr a) (inr b) =
             inr (
               a.0 + suc b.0,
               omega (arith, a.1, b.1),
-              reads_again P d i a.0 b.0 0 (B []) 0 0 0 a.2 (subst (λ t. Reads (plus_places P) d t b.0 0 (B []) 0) a.1 b.2) refl,
+              reads_again P d i a.0 b.0 0 (B []) 0 0 0 a.2 (rw (← a.1) b.2) refl,
             )
 
     -- what is read again and again is so many pieces, without marks
@@ -375,7 +375,7 @@ module _ (opening closing : VarName → ℕ) (d : List ℕ) where
               let f : suc (suc (i + r.0) + r.1) ≡ suc (i + n) = omega (arith, r.4) in (
                 suc y.0,
                 then_times X (suc y.0) i (suc (i + r.0)) (suc (i + n)) (subst (X i (suc (i + r.0))) e x.1)
-                    (subst (λ t. Times X (suc y.0) (suc (i + r.0)) t []) f y.1),
+                    (rw f at y.1),
                 sym (ap (λ c. B c i) e) ∙ x.2,
                 y.3,
                 λ p l u. elim (compared p (suc (i + r.0))) [
@@ -405,7 +405,7 @@ module _ (opening closing : VarName → ℕ) (d : List ℕ) where
         go i j m zero l h = absurd (omega (arith, l))
         go i j m (suc c) l h =
             let e = times_blank X blank (suc c) i j m h in
-            subst (λ (x : Captures). Shown (plus_places P) d i j (B x)) (sym e) (plus_shown c i j (subst (Times X (suc c) i j) e h))
+            rw e (plus_shown c i j (subst (Times X (suc c) i j) e h))
 
   pub shows_same : (P : Places) (X Y : Piece) → ((i j : ℕ) (m : Captures) → X i j m → Y i j m) → ((i j : ℕ) (m : Captures) → Y i j m → X i j m) →
       Shows P X → Shows P Y

@@ -44,9 +44,9 @@ first_cross part whole last first I d w split (suc n) i p q at h =
           r.5,
           r.6,
           r.7 ∙ ap w f,
-          subst (λ x. ReadsByte d x r.3.bytes) f r.8,
+          rw (← f) r.8,
           (h.0, a, h.2, h.3, h.4, r.9),
-          subst (λ x. Walk whole d w (suc x) r.1 r.3.to q) f r.10,
+          rw (← f) r.10,
         )
 
     crossing : (s : Stop) × (e : Entry) × Has last s × Has first e × (way_into s e ≡ h.0) → Crosses part whole last first d w i (suc n) p q
@@ -60,7 +60,7 @@ first_cross part whole last first I d w split (suc n) i p q at h =
           c.2,
           c.3,
           (ap (λ (y : Way). y.marks) c.4 ∙ h.3) ∙ ap w f,
-          subst (λ x. ReadsByte d x c.1.bytes) f (subst (λ (y : Way). ReadsByte d i y.bytes) (sym c.4) h.4),
+          rw f at (rw (← c.4) at h.4),
           sym (ap (λ (y : Way). y.from) c.4 ∙ h.2),
-          subst (λ x. Walk whole d w (suc x) n c.1.to q) f (subst (λ (y : Way). Walk whole d w (suc i) n y.to q) (sym c.4) h.5),
+          rw f at (rw (← c.4) at h.5),
         )

@@ -75,7 +75,7 @@ finish-requires-clause-marks c = λ x h.
     let a = atom_of c.args.atom.now in
     let f = a.formula in
     let there = stop_there names a c.in_ok-fragment.fragment x c.in_ok-fragment.ensures.sides h in
-    subst (λ (ns : List VarName). IsBlockOf (length ns) x.marks) (sym c.in-Ok.ensures.ok.0)
+    rw c.in-Ok.ensures.ok.0
     (stop_marks names a c.requires.sequential (ordered_repeats f c.requires.built) (built_classes f c.requires.built.0) (vars_named f names c.vars_of-vars.ensures) x there)
 
 pub finish-requires-clause-before_way : goal.finish-requires-clause-before_way
@@ -88,7 +88,7 @@ finish-requires-clause-before_way c = λ e.
     let all = made_ways a.from_start a.to_end P c.place.new.draft.next c.in_ok-fragment.fragment c.in_ok-with_capacity.field-0.items c.place.new.draft.ways.items ws
     c.in_ok-with_capacity.ensures.items c.in_ok-fragment.ensures.ways c.in_ok-fragment.ensures.next c.in_ok-fragment.ensures.sides c.in_ok-push_outer.ensures in
     let graph = ap (λ (A : Automaton). A.ways) c.in-Ok.ensures.ok.1 in
-    subst (λ (xs : List Way). Has xs (idle_way 0)) (sym (graph ∙ all)) (before_way names a e)
+    rw (graph ∙ all) (before_way names a e)
 
 pub finish-requires-clause-after_way : goal.finish-requires-clause-after_way
 finish-requires-clause-after_way c = λ e.
@@ -100,7 +100,7 @@ finish-requires-clause-after_way c = λ e.
     let all = made_ways a.from_start a.to_end P c.place.new.draft.next c.in_ok-fragment.fragment c.in_ok-with_capacity.field-0.items c.place.new.draft.ways.items ws
     c.in_ok-with_capacity.ensures.items c.in_ok-fragment.ensures.ways c.in_ok-fragment.ensures.next c.in_ok-fragment.ensures.sides c.in_ok-push_outer.ensures in
     let graph = ap (λ (A : Automaton). A.ways) c.in-Ok.ensures.ok.1 in
-    subst (λ (xs : List Way). Has xs (idle_way c.place.new.draft.next)) (sym (graph ∙ all))
+    rw (graph ∙ all)
     (after_way names a c.place.new.draft.next c.in_ok-fragment.ensures.next e)
 
 pub returns : goal.returns
@@ -121,7 +121,7 @@ returns c =
     let last = c.in_ok-group_ways.ensures in
     let is = c.vars_of-vars.ensures in
     let ascends : Ascending names = subst Ascending (sym is) (list_ascends f) in
-    let exactly : (x : VarName) → Has names x ↔ HasVar f x = subst (λ (ns : List VarName). (x : VarName) → Has ns x ↔ HasVar f x) (sym is) (vars_are f) in
+    let exactly : (x : VarName) → Has names x ↔ HasVar f x = rw is (vars_are f) in
     let same_names : c.group_ways.new.self.names ≡ names = last.names ∙ (done.names ∙ bare.0) in
     let B = c.finish.new.automaton.graph in
     let next : after ≡ suc P.count = c.in_ok-fragment.ensures.next ∙ (let e : 1 + P.count ≡ suc P.count = omega arith in e) in
@@ -132,17 +132,17 @@ returns c =
     let stops : A.stops ≡ B.stops =
     sym (done.ok.stops ∙ (ap (λ (A : Automaton). A.stops ++ all_stops t after c.in_ok-fragment.fragment) bare.1
     ∙ (ap (λ (n : ℕ). all_stops t n c.in_ok-fragment.fragment) next ∙ ap (λ (E : Sides). all_stops t (suc P.count) E) c.in_ok-fragment.ensures.sides))) in
-    let none : (p : ℕ) → Has c.in-Ok.automaton.graph.idle p → ⊥ = λ p h. subst (λ (A : Automaton). Has A.idle p) bare.1 h in
+    let none : (p : ℕ) → Has c.in-Ok.automaton.graph.idle p → ⊥ = λ p h. rw bare.1 at h in
     let idle : (p : ℕ) → Has B.idle p ↔ Has A.idle p = λ p. (
-      (λ h. elim ((done.ok.idle p).0 h) [ inl a ↦ absurd (none p a) | inr b ↦ subst (λ (n : ℕ). Has (idle_states s t n) p) next b ]),
-      (λ h. (done.ok.idle p).1 (inr (subst (λ (n : ℕ). Has (idle_states s t n) p) (sym next) h))),
+      (λ h. elim ((done.ok.idle p).0 h) [ inl a ↦ absurd (none p a) | inr b ↦ rw (← next) b ]),
+      (λ h. (done.ok.idle p).1 (inr (rw next h))),
     ) in
     let reduct : Rearranges c.group_ways.new.self.graph A = rearranges_like c.group_ways.new.self.graph B A last.rearranges states starts ways stops idle in
     record {
       ascending = subst Ascending (sym same_names) ascends;
-      names = subst (λ (ns : List VarName). (x : VarName) → Has ns x ↔ HasVar f x) (sym same_names) exactly;
-      reduct = subst (λ (ns : List VarName). Rearranges c.group_ways.new.self.graph (atom_automaton ns a)) (sym same_names) reduct;
-      ways = last.same.3 ∙ (ap length (sym ways) ∙ subst (λ (ns : List VarName). length (atom_automaton ns a).ways ≡ ways_of s t (counts_over (with_vars [] f) f)) (sym is) (all_ways a));
+      names = rw same_names exactly;
+      reduct = rw same_names reduct;
+      ways = last.same.3 ∙ (ap length (sym ways) ∙ rw is (all_ways a));
       grouped = last.grouped;
       stops = last.same.1 ∙ (sym stops ∙ ap (λ (ns : List VarName). (atom_automaton ns a).stops) (sym same_names));
     }

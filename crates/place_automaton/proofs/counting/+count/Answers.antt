@@ -94,9 +94,9 @@ count_arms-loop-waiting-preserved t c =
     let both = c.in_ok-alt.ensures (counts_over names f) (counts_over names (alt_all rest)) c.in_ok-arm.ensures.ok c.loop-waiting.invariant.1 in
     let size = ap (λ (ms : List ℕ). length ms) both.null in (
       omega arith,
-      subst (λ us. AreCapped (counts_over names (alt_all us)) c.in_ok-numbers.numbers) (sym e)
+      rw e
           (subst (AreCapped (counts_over names (alt_all (f ∷ rest)))) (sym c.in_ok-numbers.ensures.ok) both),
-      subst (λ us. largest_null_over names (alt_all us) ≤ MOST_SETS) (sym e)
+      rw e
           (omega (arith, size, c.in_ok-numbers.ensures.small, c.in_ok-arm.ensures.small, c.loop-waiting.invariant.2)),
     )
 
@@ -107,8 +107,8 @@ count_parts-cat-requires t c = λ m n hm hn.
     let k = c.loop-k.k in
     let f = tree_of c.at.result.now in
     let all : IsCountable names (cat_all ts) = (c.requires.sequential, all_ordered ts c.requires.built, c.requires.named) in
-    null_joins names (cat_all (take k ts)) f (front_countable names ts k f c.at.ensures all) m n (subst (λ ms. Has ms m) c.loop-k.invariant.0.null hm)
-    (subst (λ ns. Has ns n) c.in_ok-part.ensures.ok.null hn)
+    null_joins names (cat_all (take k ts)) f (front_countable names ts k f c.at.ensures all) m n (rw c.loop-k.invariant.0.null at hm)
+    (rw c.in_ok-part.ensures.ok.null at hn)
 
 pub count_formula-returns-then-is_once : goal.count_formula-returns-then-is_once
 count_formula-returns-then-is_once t c =
@@ -122,7 +122,7 @@ count_formula-returns-then-is_once t c =
     let a = counts_over names f in
     let is : counts_over names (rep f least most) ≡ (if least == 0 then counts_opt a else a) =
     ap (λ o. counts_repeated least o a) one ∙ counts_once least a (w.0.1.1 1 one).0 in
-    let all = subst (λ (k : PlaceCounts). AreCapped k c.in_ok-opt_if-in-Rep.field-0) (sym is) (c.in_ok-opt_if-in-Rep.ensures a c.in_ok-numbers-in-Rep.ensures.ok) in
+    let all = rw (← is) at (c.in_ok-opt_if-in-Rep.ensures a c.in_ok-numbers-in-Rep.ensures.ok) in
     let told : IsCounted names c.listed.result (tree_of c.args.formula.now) =
     subst (IsCounted names c.listed.result) (sym e)
     (counted_repeat names f least most c.in_ok-opt_if-in-Rep.field-0 c.listed.result all c.in_ok-numbers-in-Rep.ensures.small c.listed.ensures.ok c.listed.ensures.small c.listed.ensures.err) in
@@ -139,7 +139,7 @@ count_formula-repeated-requires t c = λ m h.
     let seq = subst IsSequential e c.requires.sequential in
     let none : HasNoVar f = elim seq.1 [ inl v ↦ v | inr one ↦ not_true c.is_once.result (HasNoVar f) c.if-is_once.false (c.is_once.ensures.1 one) ] in
     null_bare names f (seq.0, ordered_repeats f (w.0.0, omega (arith, w.1)), subst (AreNamed names) e c.requires.named) none m
-    (subst (λ ms. Has ms m) c.in_ok-numbers-in-Rep.ensures.ok.null h)
+    (rw (← c.in_ok-numbers-in-Rep.ensures.ok.null) h)
 
 pub count_formula-captured-requires-clause-apart : goal.count_formula-captured-requires-clause-apart
 count_formula-captured-requires-clause-apart t c =
@@ -156,7 +156,7 @@ count_formula-captured-requires-clause-marks t c = λ m h.
     let f = tree_of c.deref-in-Cap.result.now in
     let e = ap tree_of c.in-Cap.is ∙ tree_of-Cap x c.in-Cap.sub ∙ ap (λ y. cap x (tree_of y)) (sym c.deref-in-Cap.ensures) in
     null_captured names x f (subst IsSequential e c.requires.sequential, ordered_repeats (cap x f) (subst IsWellBuilt e c.requires.built), subst (AreNamed names) e c.requires.named) m
-    (subst (λ ms. Has ms m) c.in_ok-numbers-in-Cap.ensures.ok.null h)
+    (rw (← c.in_ok-numbers-in-Cap.ensures.ok.null) h)
 
 pub count_arms-returns-in_err-arm-clause-err : goal.count_arms-returns-in_err-arm-clause-err
 count_arms-returns-in_err-arm-clause-err t c =
@@ -219,8 +219,8 @@ count_parts-loop-k-preserved t c =
     let both = c.in_ok-numbers-2.ensures.capped (counts_over names (cat_all front)) (counts_over names f) c.loop-k.invariant.0 c.in_ok-part.ensures.ok in
     let sizes = sizes_product (counts_over names (cat_all front)) (counts_over names f) c.loop-k.numbers c.in_ok-part.part c.loop-k.invariant.0 c.in_ok-part.ensures.ok in
     let within = not_large c.has_large_join.result MOST_SETS (length c.loop-k.numbers.null.items * length c.in_ok-part.part.null.items) c.if-has_large_join.false c.has_large_join.ensures.1 in (
-      subst (λ us. AreCapped (counts_over names (cat_all us)) c.in_ok-numbers-2.numbers) (sym e)
-          (subst (λ (k : PlaceCounts). AreCapped k c.in_ok-numbers-2.numbers) (sym (counts_more o l front f)) both),
-      subst (λ us. largest_null_over names (cat_all us) ≤ MOST_SETS) (sym e)
+      rw e
+          (rw (counts_more o l front f) both),
+      rw e
           (largest_more o l front f 1 MOST_SETS c.loop-k.invariant.1 c.in_ok-part.ensures.small (omega (arith, within, sizes, size_more o l front f))),
     )

@@ -18,7 +18,7 @@ captured-requires c =
     let e = c.closing.ensures ∙ (ap (λ (v : ℕ). 2 ^ closing_bit v c.in-Some.k) c.len-count.ensures.value ∙ closing_at names c.in-Some.k x c.requires.distinct c.in-Some.ensures.some) in
     let both : c.with.result ≡ opening_of names x + closing_of names x =
     c.with.ensures ∙ (ap (λ (n : ℕ). bit_or n c.closing.result) o ∙ (ap (λ (n : ℕ). bit_or (opening_of names x) n) e ∙ c.requires.apart)) in
-    subst (λ (n : ℕ). (m : ℕ) → Has c.args.numbers.null.items m → JoinAsSum n m) (sym both) c.requires.marks
+    rw both c.requires.marks
 
 pub returns-in-Some : goal.returns-in-Some
 returns-in-Some c = λ a p.
@@ -28,7 +28,7 @@ returns-in-Some c = λ a p.
     let e = c.closing.ensures ∙ (ap (λ (v : ℕ). 2 ^ closing_bit v c.in-Some.k) c.len-count.ensures.value ∙ closing_at names c.in-Some.k x c.requires.distinct c.in-Some.ensures.some) in
     let both : c.with.result ≡ opening_of names x + closing_of names x =
     c.with.ensures ∙ (ap (λ (n : ℕ). bit_or n c.closing.result) o ∙ (ap (λ (n : ℕ). bit_or (opening_of names x) n) e ∙ c.requires.apart)) in
-    subst (λ (n : ℕ). AreCapped (counts_cap n a) c.captured.result) both (c.captured.ensures a p)
+    rw (← both) (c.captured.ensures a p)
 
 pub returns-in-None : goal.returns-in-None
 returns-in-None c = absurd (c.in-None.ensures.none (Contains-Has c.args.vars.now c.args.name.now c.requires.named))

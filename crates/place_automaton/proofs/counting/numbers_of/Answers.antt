@@ -10,7 +10,7 @@ use Rattle.place_automaton.proofs.counting.numbers_of.Goals as goal
 pub count_formula-requires-clause-distinct : goal.count_formula-requires-clause-distinct
 count_formula-requires-clause-distinct c =
     let names = c.vars_of-vars.result in
-    ascending-distinct names (subst (λ (ns : List VarName). Ascending ns) (sym c.vars_of-vars.ensures) (list_ascends (tree_of c.args.formula.now)))
+    ascending-distinct names (rw c.vars_of-vars.ensures (list_ascends (tree_of c.args.formula.now)))
 
 pub count_formula-requires-clause-named : goal.count_formula-requires-clause-named
 count_formula-requires-clause-named c = vars_named (tree_of c.args.formula.now) c.vars_of-vars.result c.vars_of-vars.ensures

@@ -11,5 +11,5 @@ either_of-requires c =
     let front = c.pop.new.self.items in
     let whole : c.args.fragments.items ≡ front ++ P ∷ inv.0 =
     inv.1 ∙ (ap (λ (xs : List Sides). xs ++ inv.0) c.in-Some.ensures.items ∙ append_assoc front (P ∷ []) inv.0) in
-    let has : Has c.args.fragments.items P = subst (λ (xs : List Sides). Has xs P) (sym whole) (Has-append_right front (P ∷ inv.0) P (inl refl)) in
+    let has : Has c.args.fragments.items P = rw whole (Has-append_right front (P ∷ inv.0) P (inl refl)) in
     subst AreDistinct (sym (ap (λ (P : Sides). P.null) c.fragment-in-Some.view_is)) (c.requires P has)

@@ -11,8 +11,7 @@ before-requires c =
     let i = c.loop-fragment.invariant in
     let new = c.pop.new.self.items in
     let joins = taken_joins r c.args.fragments.items c.loop-fragment.fragments.items new i.0 c.in-Some.fragment c.args.rest i.1 c.in-Some.ensures.items c.requires in
-    subst (λ (Q : Sides). JoinAsSums c.in-Some.fragment Q)
-    (sym (i.2 ∙ taken_rest r c.args.fragments.items c.loop-fragment.fragments.items new i.0 c.in-Some.fragment c.args.rest i.1 c.in-Some.ensures.items))
+    rw (i.2 ∙ taken_rest r c.args.fragments.items c.loop-fragment.fragments.items new i.0 c.in-Some.fragment c.args.rest i.1 c.in-Some.ensures.items)
     (next_joins r (length new) c.in-Some.fragment i.0 c.args.rest joins)
 
 pub loop-fragment-preserved : goal.loop-fragment-preserved
@@ -28,7 +27,7 @@ loop-fragment-preserved c =
     let Rest = row_sides (r - suc k) i.0 c.args.rest in (
       P ∷ i.0,
       taken_whole r c.args.fragments.items c.loop-fragment.fragments.items new i.0 P c.args.rest i.1 c.in-Some.ensures.items,
-      subst (λ (Q : Sides). c.in_ok-row.row ≡ (if nat_le r c.len.result then opt_sides (cat_sides P Q) else cat_sides P Q)) rest c.in_ok-row.ensures.sides
+      rw (← rest) c.in_ok-row.ensures.sides
           ∙ next_row r k P i.0 c.args.rest (nat_le r c.len.result) (ap (nat_le r) len),
       c.in_ok-row.ensures.ways
           ∙ (ap (λ ws. ws ++ ways_between P.last c.loop-fragment.row.first) ways

@@ -9,4 +9,4 @@ push_entries-requires c =
     let m = c.marks-item.result in
     let within : c.loop-marks.marks-index < length xs = omega arith in
     let has : Has xs m = subst (Has xs) (sym c.marks-item.is) (Has-get_or xs c.loop-marks.marks-index m within) in
-    λ e h. c.requires m e has (subst (λ ys. Has ys e) c.deref.ensures.value h)
+    λ e h. c.requires m e has (rw (← c.deref.ensures.value) h)

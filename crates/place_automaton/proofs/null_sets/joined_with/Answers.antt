@@ -11,7 +11,7 @@ push_joined-requires c =
     let m = c.marks-item.result in
     let within : c.loop-marks.marks-index < length xs = omega arith in
     let has : Has xs m = subst (Has xs) (sym c.marks-item.is) (Has-get_or xs c.loop-marks.marks-index m within) in
-    λ n h. c.requires m n (subst (λ zs. Has zs m) c.deref-marks-items.ensures.value has) (subst (λ ys. Has ys n) c.deref-in-loop-marks.ensures.value h)
+    λ n h. c.requires m n (rw (← c.deref-marks-items.ensures.value) has) (rw (← c.deref-in-loop-marks.ensures.value) h)
 
 pub returns-then-is_only_none-2 : goal.returns-then-is_only_none-2
 returns-then-is_only_none-2 c =

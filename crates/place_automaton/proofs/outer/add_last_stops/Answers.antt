@@ -10,7 +10,7 @@ add_stop-requires-clause-state c =
     let s = c.stop-item.result in
     let within : c.loop-stop.stop-index < length xs = omega arith in
     let has : Has xs s = subst (Has xs) (sym c.stop-item.is) (Has-get_or xs c.loop-stop.stop-index s within) in
-    subst (λ (n : ℕ). s.state < n) (sym (ap (λ (A : Automaton). A.states) c.loop-stop.invariant.1)) (c.requires.state s has)
+    rw (ap (λ (A : Automaton). A.states) c.loop-stop.invariant.1) (c.requires.state s has)
 
 pub add_stop-requires-clause-marks : goal.add_stop-requires-clause-marks
 add_stop-requires-clause-marks c =
@@ -18,4 +18,4 @@ add_stop-requires-clause-marks c =
     let s = c.stop-item.result in
     let within : c.loop-stop.stop-index < length xs = omega arith in
     let has : Has xs s = subst (Has xs) (sym c.stop-item.is) (Has-get_or xs c.loop-stop.stop-index s within) in
-    subst (λ (names : List (List ℕ)). IsBlockOf (length names) s.marks) (sym c.loop-stop.invariant.0) (c.requires.marks s has)
+    rw c.loop-stop.invariant.0 (c.requires.marks s has)

@@ -47,7 +47,7 @@ place-place_parts-requires t c =
           subst IsSequential e c.requires.sequential,
           (
             c.requires.distinct,
-            (subst (AreNamed c.args.vars.now) e c.requires.named, subst (λ f. c.args.draft.now.next + (counts_over c.args.vars.now f).places ≤ MOST_STATES) e c.requires.room),
+            (subst (AreNamed c.args.vars.now) e c.requires.named, rw (← e) c.requires.room),
           ),
         ),
       ),
@@ -64,7 +64,7 @@ place-place_arms-requires t c =
           subst IsSequential e c.requires.sequential,
           (
             c.requires.distinct,
-            (subst (AreNamed c.args.vars.now) e c.requires.named, subst (λ f. c.args.draft.now.next + (counts_over c.args.vars.now f).places ≤ MOST_STATES) e c.requires.room),
+            (subst (AreNamed c.args.vars.now) e c.requires.named, rw (← e) c.requires.room),
           ),
         ),
       ),
@@ -83,7 +83,7 @@ pub place-returns-in-One : goal.place-returns-in-One
 place-returns-in-One t c =
     let names = c.args.vars.now in
     let e = ap tree_of c.in-One.is ∙ tree_of-One c.in-One.bytes in
-    subst (λ f. IfOk c.place_one.result (HasPlaced (places_of names f c.args.draft.now.next) c.args.draft.now c.place_one.new.draft)) (sym e) (c.place_one.ensures names)
+    rw e (c.place_one.ensures names)
 
 pub place_arms-place-requires : goal.place_arms-place-requires
 place_arms-place-requires t c =
@@ -130,7 +130,7 @@ place_arms-join_arms-requires t c = λ P h.
     let fragments = c.loop-k.invariant.fragments ∙ ap (λ us. map sides_of (in_turn (placers names us) c.args.draft.now.next)) all in
     arms_distinct names ts c.args.draft.now.next
     (λ f has. (sequential_arm ts f has c.requires.sequential, ordered_repeats f (c.requires.built f has), λ x v. c.requires.named x ((arms_have ts x).1 (part_has ts f x has v))))
-    P (subst (λ (Qs : List Sides). Has Qs P) fragments h)
+    P (rw (← fragments) h)
 
 pub place_arms-returns : goal.place_arms-returns
 place_arms-returns t c =
@@ -139,7 +139,7 @@ place_arms-returns t c =
     let a = c.args.draft.now in
     let at : c.loop-k.k ≡ length ts = omega (arith, c.len-k-end.ensures) in
     let all : take c.loop-k.k ts ≡ ts = ap (λ k. take k ts) at ∙ take-length ts in
-    let row = subst (λ us. IsRow (in_turn (placers names us) a.next) a c.loop-k.draft c.loop-k.fragments.items) all c.loop-k.invariant in
+    let row = rw all at c.loop-k.invariant in
     let new : Draft = record { next = c.loop-k.draft.next; ways = c.loop-k.draft.ways } in
     let xs = c.loop-k.fragments.items in
     IfOk-weaker c.join_arms.result (λ (p : Sides). p ≡ any_sides xs) (λ (p : Sides). HasPlaced (places_of names (alt_all ts) a.next) a new p)
@@ -189,8 +189,8 @@ place_parts-join_row-requires t c =
     let all : take c.loop-k.k ts ≡ ts = ap (λ k. take k ts) at ∙ take-length ts in
     let fragments = c.loop-k.invariant.fragments ∙ ap (λ us. map sides_of (in_turn (placers names us) n)) all in
     let joins = parts_joins names ts c.requires.sequential (all_ordered ts c.requires.built) (all_classes ts c.requires.built) c.requires.named n in
-    subst (λ (Q : Sides). RowJoins c.len-2.result c.loop-k.fragments.items Q) (sym c.in_ok-rest.ensures)
-    (subst (λ (r : ℕ). RowJoins r c.loop-k.fragments.items nothing_sides) (sym c.len-2.ensures) (subst (λ (xs : List Sides). RowJoins (length ts) xs nothing_sides) (sym fragments) joins))
+    rw c.in_ok-rest.ensures
+    (rw c.len-2.ensures (rw fragments joins))
 
 pub place_parts-returns : goal.place_parts-returns
 place_parts-returns t c =
@@ -199,7 +199,7 @@ place_parts-returns t c =
     let a = c.args.draft.now in
     let at : c.loop-k.k ≡ length ts = omega (arith, c.len-k-end.ensures) in
     let all : take c.loop-k.k ts ≡ ts = ap (λ k. take k ts) at ∙ take-length ts in
-    let row = subst (λ us. IsRow (in_turn (placers names us) a.next) a c.loop-k.draft c.loop-k.fragments.items) all c.loop-k.invariant in
+    let row = rw all at c.loop-k.invariant in
     let new : Draft = record { next = c.loop-k.draft.next; ways = c.join_row.new.ways } in
     let xs = c.loop-k.fragments.items in
     ok_both c.join_row.result (λ (p : Sides). p ≡ row_sides c.len-2.result xs c.in_ok-rest.rest) (λ (p : Sides). HasPlaced (places_of names (cat_all ts) a.next) a new p)
@@ -280,7 +280,7 @@ place_once-returns t c =
     let E = c.in_ok-fragment.fragment in
     let is = once_is c.args.least F k (c.requires.built.0.1.1 1 refl).0 in
     IfOk-weaker c.opt_if.result (λ (p : Sides). p ≡ (if c.args.least == 0 then opt_sides E else E)) (λ (p : Sides). HasPlaced (repeated c.args.least (Some 1) F k) c.args.draft.now c.place.new.draft p)
-    (λ p e. subst (λ (W : Places). HasPlaced W c.args.draft.now c.place.new.draft p) (sym is) (once_done (c.args.least == 0) (F k) c.args.draft.now c.place.new.draft E p c.in_ok-fragment.ensures e))
+    (λ p e. rw is (once_done (c.args.least == 0) (F k) c.args.draft.now c.place.new.draft E p c.in_ok-fragment.ensures e))
     c.opt_if.ensures
 
 pub place_repeat-index-requires : goal.place_repeat-index-requires
@@ -360,7 +360,7 @@ place_repeat-loop-copy-preserved t c =
     let is = ap (λ (k : ℕ). places_moved (b.next - k) (F a.next)) added.ensures.first
     ∙ once_more F (place_moves (opening_of names) (closing_of names) f) a.next b.next (omega (arith, row.next)) in
     copies_next F i a.next a b new c.loop-copy.fragments.items c.push-in-loop-copy.new.self.items fragment refl row
-    (subst (λ (P : Places). HasPlaced P b new fragment) is again) c.in_ok-push-2.ensures.items
+    (rw (← is) again) c.in_ok-push-2.ensures.items
 
 pub place_repeat-join_row-requires : goal.place_repeat-join_row-requires
 place_repeat-join_row-requires t c =
@@ -397,7 +397,7 @@ place_repeat-returns-in_ok-rest-in-Some t c =
     let some : 1 ≤ n = omega (arith, c.if-copies-eq0.false) in
     let at : c.loop-copy._copy ≡ m = omega (arith, many, c.loop-copy-test.false, c.loop-copy.auto._copy-end some) in
     let xs = c.loop-copy.fragments.items in
-    let row = subst (λ (j : ℕ). IsRow (copies F j a.next) a c.loop-copy.draft xs) at c.loop-copy.invariant in
+    let row = rw at at c.loop-copy.invariant in
     let new : Draft = record { next = c.loop-copy.draft.next; ways = c.join_row.new.ways } in
     let W = repeated least most F a.next in
     let is = ap (λ (o : Option ℕ). repeated least o F a.next) c.in-Some.is ∙ bounded_places F least m a.next le in

@@ -12,7 +12,7 @@ captured-requires c =
     let x = c.args.name.now in
     let o = c.opening.ensures ∙ (ap (λ (v : ℕ). 2 ^ opening_bit v c.in-Some.k) c.len-count.ensures.value ∙ opening_at names c.in-Some.k x c.requires.distinct c.in-Some.ensures.some) in
     let e = c.closing.ensures ∙ (ap (λ (v : ℕ). 2 ^ closing_bit v c.in-Some.k) c.len-count.ensures.value ∙ closing_at names c.in-Some.k x c.requires.distinct c.in-Some.ensures.some) in
-    subst (λ (n : ℕ). CanCapture n c.closing.result c.args.fragment) (sym o) (subst (λ (n : ℕ). CanCapture (opening_of names x) n c.args.fragment) (sym e) c.requires.marks)
+    rw o (rw e c.requires.marks)
 
 pub returns-in-Some : goal.returns-in-Some
 returns-in-Some c =

@@ -5,5 +5,5 @@ use Rattle.place_automaton.proofs.fragment.Fragment.captured.Goals as goal
 
 pub mark_entries-requires : goal.mark_entries-requires
 mark_entries-requires c = λ e he.
-    let he' = subst (λ es. Has es e) (c.deref_mut-2.ensures.value ∙ ap (λ (P : Sides). P.first) c.self.view_is) he in
+    let he' = rw (c.deref_mut-2.ensures.value ∙ ap (λ (P : Sides). P.first) c.self.view_is) at he in
     c.requires.first e.marks (inr (inl (e, he', refl)))

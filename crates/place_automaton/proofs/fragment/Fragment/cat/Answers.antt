@@ -5,12 +5,12 @@ use Rattle.place_automaton.proofs.fragment.Fragment.cat.Goals as goal
 
 pub push_ways-requires : goal.push_ways-requires
 push_ways-requires c = λ s e hs he.
-    let hs' = subst (λ ss. Has ss s) (c.deref.ensures.value ∙ ap (λ (P : Sides). P.last) c.self.view_is) hs in
-    let he' = subst (λ es. Has es e) (c.deref-2.ensures.value ∙ ap (λ (P : Sides). P.first) c.rest.view_is) he in
+    let hs' = rw (c.deref.ensures.value ∙ ap (λ (P : Sides). P.last) c.self.view_is) at hs in
+    let he' = rw (c.deref-2.ensures.value ∙ ap (λ (P : Sides). P.first) c.rest.view_is) at he in
     c.requires s.marks e.marks (inr (inr (s, hs', refl))) (inr (inl (e, he', refl)))
 
 pub all_entries-requires : goal.all_entries-requires
 all_entries-requires c = λ m e hm he.
-    let hm' = subst (λ ms. Has ms m) (c.deref-3.ensures.value ∙ ap (λ (P : Sides). P.null) c.self.view_is) hm in
+    let hm' = rw (c.deref-3.ensures.value ∙ ap (λ (P : Sides). P.null) c.self.view_is) at hm in
     let he' = subst (λ (P : Sides). Has P.first e) c.rest.view_is he in
     c.requires m e.marks (inl hm') (inr (inl (e, he', refl)))

@@ -5,6 +5,6 @@ use Rattle.place_automaton.proofs.fragment.Fragment.push_again.Goals as goal
 
 pub push_ways-requires : goal.push_ways-requires
 push_ways-requires c = λ s e hs he.
-    let hs' = subst (λ ss. Has ss s) (c.deref.ensures.value ∙ ap (λ (P : Sides). P.last) c.self.view_is) hs in
-    let he' = subst (λ es. Has es e) (c.deref-2.ensures.value ∙ ap (λ (P : Sides). P.first) c.self.view_is) he in
+    let hs' = rw (c.deref.ensures.value ∙ ap (λ (P : Sides). P.last) c.self.view_is) at hs in
+    let he' = rw (c.deref-2.ensures.value ∙ ap (λ (P : Sides). P.first) c.self.view_is) at he in
     c.requires s.marks e.marks (inr (inr (s, hs', refl))) (inr (inl (e, he', refl)))

@@ -6,4 +6,4 @@ use Rattle.place_automaton.proofs.numbers.Numbers.repeated.Goals as goal
 pub returns-in_ok-plus-in-None : goal.returns-in_ok-plus-in-None
 returns-in_ok-plus-in-None c = λ a p.
     let e = ap (λ n. counts_repeated n c.args.most a) c.if-least-eq0.true ∙ ap (λ o. counts_repeated 0 o a) c.in-None.is in
-    subst (λ k. IfOk c.opt.result (λ n. AreCapped k n)) (sym e) (c.opt.ensures.capped (counts_plus a) (c.in_ok-plus-in-None.ensures.capped a p))
+    rw e (c.opt.ensures.capped (counts_plus a) (c.in_ok-plus-in-None.ensures.capped a p))
