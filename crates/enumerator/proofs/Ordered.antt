@@ -32,7 +32,7 @@ rows_in_order (r ∷ older) (Row k) made led there = elim (cases_eq r.name k) as
       (rows_in_order older r.next made.1 led.1 made.0.next_there)
       (λ x y hx hy.
       let c = Has-map_cases (λ (w : Word). (r.at, r.marks) ∷ w) (rows older r.child) x hx in
-      subst (λ z. Before z y) c.2 (before_by_lead (r.at, r.marks) c.0 y (led.0 y hy))))
+      rw (← c.2) (before_by_lead (r.at, r.marks) c.0 y (led.0 y hy))))
   | inr ne ↦
       let further : HasRow older k = elim there.1 as (λ _. HasRow older k) [
         | inl is ↦ absurd (ne (ap (λ (x : NamedRow). x.name) is ∙ there.2))
@@ -66,7 +66,7 @@ word_differs n (x ∷ u) (y ∷ w) up up' some (inl lead) =
 word_differs n (x ∷ u) (y ∷ w) up up' some (inr p) =
     let at_is : x.0 ≡ y.0 = ap (λ (z : ℕ × ℕ). z.0) p.0 in
     let marks_is : x.1 ≡ y.1 = ap (λ (z : ℕ × ℕ). z.1) p.0 in
-    let further : AscendsFrom (x.0 + 1) w = subst (λ (k : ℕ). AscendsFrom (k + 1) w) (sym at_is) up'.1 in
+    let further : AscendsFrom (x.0 + 1) w = rw at_is up'.1 in
     let d = word_differs (x.0 + 1) u w up.1 further some.1 p.1 in
     let later : x.0 < d.at = elim (cases_lt x.0 d.at) [
       | inl l ↦ l
@@ -104,7 +104,7 @@ rows_stand v P [] words order = tt
 rows_stand v P (w ∷ ws) words order = (
   λ q h.
       let c = Has-map_cases (row_under v 0 P) ws q h in
-      subst (λ (z : SpanRow). StandsBefore (row_under v 0 P w) z) c.2 (row_stands v P w c.0 (words w (inl refl)) (words c.0 (inr c.1)) (order.0 c.0 c.1)),
+      rw (← c.2) (row_stands v P w c.0 (words w (inl refl)) (words c.0 (inr c.1)) (order.0 c.0 c.1)),
   rows_stand v P ws (λ u h. words u (inr h)) order.1,
 )
 

@@ -177,7 +177,7 @@ module _ (store : List NamedRow) (made : AreMade store) (v : ℕ) (after : SpanR
                 let here = child_row store made v m k r is c.0 c.1 in
                 let row_is : row_under v m P (own ∷ c.0) ≡ q = ap (row_under v m P) c.2 ∙ u.2 in
                 led_not_after from after v m P x own c.0 next (s.tails (own ∷ c.0) here) lead (cell_new store made v m k r is waiting).some
-                (subst (λ (z : SpanRow). StandsBefore after z) (sym row_is) b)
+                (rw (← row_is) at b)
           ];
           waits = s.waits;
           there = t.2;
@@ -197,12 +197,11 @@ module _ (store : List NamedRow) (made : AreMade store) (v : ℕ) (after : SpanR
           passed = s.passed;
           waits = λ q h.
               let kept = next_rows_kept store made v m k r is waiting P fs s.below in
-              let h' : Has (map (row_under v m P) (rows store r.next) ++ waiting_rows store v P fs) q = subst (λ xs. Has xs q) (sym kept) h in
+              let h' : Has (map (row_under v m P) (rows store r.next) ++ waiting_rows store v P fs) q = rw (← kept) at h in
               elim (Has-append_cases (map (row_under v m P) (rows store r.next)) (waiting_rows store v P fs) q h') as (λ _. StandsBefore after q) [
                 | inl new ↦
                     let u = Has-map_cases (row_under v m P) (rows store r.next) q new in
-                    subst (λ (z : SpanRow). StandsBefore after z) u.2
-                    (led_after from after v m P own u.0 next (s.tails u.0 (next_row store made v m k r is u.0 u.1)) (led_at store k r made led is u.0 u.1))
+                    rw u.2 at (led_after from after v m P own u.0 next (s.tails u.0 (next_row store made v m k r is u.0 u.1)) (led_at store k r made led is u.0 u.1))
                 | inr old ↦ s.waits q old
               ];
           there = t.1;
@@ -215,8 +214,8 @@ module _ (store : List NamedRow) (made : AreMade store) (v : ℕ) (after : SpanR
     -- the given row's next block comes before the cell's: so it does before all of its rows
     pub cell_led : AreLed store → (x : ℕ × ℕ) → LeadsBlock x own → (w : Word) → Has (rows store (Row k)) w → LeadsBefore x w
     cell_led led x lead w h =
-        elim (Has-append_cases (map (λ (u : Word). own ∷ u) (rows store r.child)) (rows store r.next) w (subst (λ ws. Has ws w) (cell_rows store made v m k r is) h)) as (λ _. LeadsBefore x w) [
-          | inl mine ↦ let c = Has-map_cases (λ (u : Word). own ∷ u) (rows store r.child) w mine in subst (λ (u : Word). LeadsBefore x u) c.2 lead
+        elim (Has-append_cases (map (λ (u : Word). own ∷ u) (rows store r.child)) (rows store r.next) w (rw (← cell_rows store made v m k r is) h)) as (λ _. LeadsBefore x w) [
+          | inl mine ↦ let c = Has-map_cases (λ (u : Word). own ∷ u) (rows store r.child) w mine in rw (← c.2) lead
           | inr further ↦ lead_further x w lead (led_at store k r made led is w further)
         ]
       where
@@ -240,10 +239,10 @@ module _ (store : List NamedRow) (v : ℕ) (after : SpanRow) (P : Positions) (m 
       s.whole_is ∙ ap (λ xs. s.front ++ xs) (sym (waited_rows store v m P e fs)),
       s.passed,
       λ q h.
-          elim (Has-append_cases (map (row_under v m P) (rows store e)) (waiting_rows store v P fs) q (subst (λ xs. Has xs q) (waited_rows store v m P e fs) h)) as (λ _. StandsBefore after q) [
+          elim (Has-append_cases (map (row_under v m P) (rows store e)) (waiting_rows store v P fs) q (rw (← waited_rows store v m P e fs) h)) as (λ _. StandsBefore after q) [
             | inl new ↦
                 let u = Has-map_cases (row_under v m P) (rows store e) q new in
-                subst (λ (z : SpanRow). StandsBefore after z) u.2 (led_after from after v m P x u.0 next (s.tails u.0 u.1) (lead u.0 u.1))
+                rw (← u.2) (led_after from after v m P x u.0 next (s.tails u.0 u.1) (lead u.0 u.1))
             | inr old ↦ s.waits q old
           ],
     ),
@@ -262,7 +261,7 @@ module _ (store : List NamedRow) (v : ℕ) (after : SpanRow) (P : Positions) (m 
             | inl old ↦ s.passed q old b
             | inr new ↦
                 let u = Has-map_cases (row_under v m P) (rows store e) q new in
-                none_after from after v m P u.0 none (s.tails u.0 u.1) (subst (λ (z : SpanRow). StandsBefore after z) (sym u.2) b)
+                none_after from after v m P u.0 none (s.tails u.0 u.1) (rw u.2 b)
           ],
       s.waits,
     ),
@@ -271,9 +270,9 @@ module _ (store : List NamedRow) (v : ℕ) (after : SpanRow) (P : Positions) (m 
 
 -- an entry that is no row cell has no block
 pub no_cell_led : (store : List NamedRow) (e : Entry) (x : ℕ × ℕ) → ((k : ℕ) → e ≡ Row k → ⊥) → (w : Word) → Has (rows store e) w → LeadsBefore x w
-no_cell_led store Nothing x no_row w h = absurd (subst (λ ws. Has ws w) (rows_nothing store) h)
-no_cell_led store Done x no_row w h = elim (subst (λ ws. Has ws w) (rows_done store) h) as (λ _. LeadsBefore x w) [
-  | inl e ↦ subst (λ (u : Word). LeadsBefore x u) e tt
+no_cell_led store Nothing x no_row w h = absurd (rw (rows_nothing store) at h)
+no_cell_led store Done x no_row w h = elim (rw (rows_done store) at h) as (λ _. LeadsBefore x w) [
+  | inl e ↦ rw (← e) tt
   | inr none ↦ absurd none
 ]
 no_cell_led store (Row k) x no_row w h = absurd (no_row k refl)

@@ -49,7 +49,7 @@ module _ (pick : NamedRow → Entry) (picked_there : (older : List NamedRow) (r 
         let found : Some q ≡ Some r = sym (cond-true (nat_eq q.name k) (Some q) (row_at older k) (eq-eqb q.name k same)) ∙ is in
         let q_is : q ≡ r = cc in
         let names : pick q ≡ Row j = ap pick q_is ∙ e in
-        let there : HasRow older j = subst (λ x. IsThere older x) names (picked_there older q made.0) in
+        let there : HasRow older j = rw names at (picked_there older q made.0) in
         let ne : q.name ≡ j → ⊥ = λ p. named_fresh older q j made.0 there p in
         let a = cond-true (nat_eq q.name k) (length older) (age older k) (eq-eqb q.name k same) in
         let b = cond-false (nat_eq q.name j) (length older) (age older j) (ne_eqb q.name j ne) in
@@ -93,13 +93,13 @@ led_at (q ∷ older) k r made led is w h = elim (cases_eq q.name k) as (λ _. Le
   | inl e ↦
       let found : Some q ≡ Some r = sym (cond-true (nat_eq q.name k) (Some q) (row_at older k) (eq-eqb q.name k e)) ∙ is in
       let same : q ≡ r = cc in
-      let there : Has (rows (q ∷ older) q.next) w = subst (λ (x : NamedRow). Has (rows (q ∷ older) x.next) w) (sym same) h in
-      let here = led.0 w (subst (λ xs. Has xs w) (rows_kept older q q.next made.0.fresh made.0.next_there) there) in
-      subst (λ (x : NamedRow). LeadsBefore (x.at, x.marks) w) same here
+      let there : Has (rows (q ∷ older) q.next) w = rw (← same) at h in
+      let here = led.0 w (rw (← rows_kept older q q.next made.0.fresh made.0.next_there) there) in
+      rw (← same) here
   | inr ne ↦
       let further : row_at older k ≡ Some r = sym (cond-false (nat_eq q.name k) (Some q) (row_at older k) (ne_eqb q.name k ne)) ∙ is in
       let t = rows_at older k r made.1 further in
-      led_at older k r made.1 led.1 further w (subst (λ xs. Has xs w) (rows_kept older q r.next made.0.fresh t.2) h)
+      led_at older k r made.1 led.1 further w (rw (← rows_kept older q r.next made.0.fresh t.2) h)
 ]
 
 -- what a row cell names is reached by fewer look-ups

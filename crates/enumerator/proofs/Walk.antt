@@ -39,11 +39,11 @@ module _ (store : List NamedRow) (made : AreMade store) (v m k : ℕ) (r : Named
   cell_rows = (rows_at store k r made is).0
 
   pub child_row : (w : Word) → Has (rows store r.child) w → Has (rows store (Row k)) (block ∷ w)
-  child_row w h = subst (λ ws. Has ws (block ∷ w)) (sym cell_rows)
+  child_row w h = rw cell_rows
       (Has-append_left (map (λ (u : Word). block ∷ u) (rows store r.child)) (rows store r.next) (block ∷ w) (Has-map (λ (u : Word). block ∷ u) (rows store r.child) w h))
 
   pub next_row : (w : Word) → Has (rows store r.next) w → Has (rows store (Row k)) w
-  next_row w h = subst (λ ws. Has ws w) (sym cell_rows) (Has-append_right (map (λ (u : Word). block ∷ u) (rows store r.child)) (rows store r.next) w h)
+  next_row w h = rw cell_rows (Has-append_right (map (λ (u : Word). block ∷ u) (rows store r.child)) (rows store r.next) w h)
 
   module _ (waits : IsWaiting store v (frame m (Row k))) where
     pub cell_new : IsNew v m r.marks
@@ -131,7 +131,7 @@ module _ (store : List NamedRow) (made : AreMade store) (v m k : ℕ) (r : Named
       × AreStacked store v (waited m r.next fs)
   leaf_rows done =
       let t = in_row_ends store v (put P (r.at, r.marks)) (bit_or m r.marks) Done (waited m r.next fs) all_rows (0 + left v m) (0 + 1) (λ j e. cc)
-      (subst (λ (e : Entry). IsInRow store v (put P (r.at, r.marks)) (bit_or m r.marks) e (waited m r.next fs) all_rows (0 + left v m) (0 + 1)) done (cell_begun 0)) in
+      (rw (← done) (cell_begun 0)) in
       (t.0, t.1)
 
   -- the first rows of its child, and all that waits then
@@ -152,7 +152,7 @@ module _ (store : List NamedRow) (v : ℕ) (P : Positions) (all fs : List Waitin
 
   module _ (made : AreMade store) (k : ℕ) (r : NamedRow) (is : row_at store k ≡ Some r) (here : f.entry ≡ Row k) where
     abbrev now : IsWaiting store v (frame f.settled (Row k))
-    now = subst (λ (e : Entry). IsWaiting store v (frame f.settled e)) here taken.0
+    now = rw (← here) taken.0
 
     same_rows : waiting_rows store v P all ≡ rows_under store v P (frame f.settled (Row k)) ++ waiting_rows store v P fs
     same_rows = ap (waiting_rows store v P) top ∙ ap (λ (e : Entry). rows_under store v P (frame f.settled e) ++ waiting_rows store v P fs) here

@@ -4,8 +4,7 @@ use Rattle.enumerator.proofs.Placing.{ArePut, put_begins, put_step, put_ends, cl
 use Rattle.enumerator.proofs.positions.place.Goals as goal
 
 pub loop-rest-init : goal.loop-rest-init
-loop-rest-init c = subst (λ (n : ℕ). ArePut (positions_of c.args.positions.now) (c.args.at, n) c.number-rest.result c.args.positions.now)
-    c.number-rest.ensures (put_begins c.args.positions.now (c.args.at, c.number-rest.result) c.told-positions)
+loop-rest-init c = rw (← c.number-rest.ensures) (put_begins c.args.positions.now (c.args.at, c.number-rest.result) c.told-positions)
 
 pub loop-rest-smaller : goal.loop-rest-smaller
 loop-rest-smaller c =
@@ -23,4 +22,4 @@ pub returns : goal.returns
 returns c = λ bit.
     let none : c.loop-rest.rest ≡ 0 = omega arith in
     put_ends (positions_of c.args.positions.now) (c.args.at, c.args.marks) c.loop-rest.positions
-    (subst (λ (n : ℕ). ArePut (positions_of c.args.positions.now) (c.args.at, c.args.marks) n c.loop-rest.positions) none c.loop-rest.invariant) bit
+    (rw (← none) c.loop-rest.invariant) bit
