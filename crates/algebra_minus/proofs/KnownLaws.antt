@@ -47,7 +47,7 @@ alike_known known xs z are f c t = (
   λ w. elim (Has-append_cases xs (z ∷ []) w.0 w.1) as (λ _. SomeWayLeads xs c t) [
     | inl i ↦ (w.0, i, w.2, w.3)
     | inr j ↦ elim j as (λ _. SomeWayLeads xs c t) [
-      | inl e ↦ subst (λ (s : ℕ). SomeWayLeads xs c s) (ap (λ (y : Way). y.to) e ∙ w.3) (are z.to c (f c (subst (λ (y : Way). HasByte y.bytes c) (sym e) w.2)))
+      | inl e ↦ rw (← (ap (λ (y : Way). y.to) e ∙ w.3)) (are z.to c (f c (rw e w.2)))
       | inr n ↦ absurd n
     ]
   ],
@@ -75,7 +75,7 @@ put_cases {X = X} (x ∷ xs) (suc i) (suc t) v s e = elim (put_cases xs i t v s 
 pub known_put : (known : List ByteClass) (to : ℕ) (b new bytes : ByteClass) (t c : ℕ) → slice_get known to ≡ Some b → new ≡ set.union b bytes →
     IsKnown (slice_set known to new) t c → IsKnown known t c ⊎ (HasByte bytes c × (to ≡ t))
 known_put known to b new bytes t c at is h = elim (put_cases known to t new h.0 h.1) as (λ _. IsKnown known t c ⊎ (HasByte bytes c × (to ≡ t))) [
-  | inl p ↦ elim (in_union_cases b bytes c (subst (λ (s : ByteClass). HasByte s c) (p.1 ∙ is) h.2)) as (λ _. IsKnown known t c ⊎ (HasByte bytes c × (to ≡ t))) [
+  | inl p ↦ elim (in_union_cases b bytes c (rw (← p.1 ∙ is) h.2)) as (λ _. IsKnown known t c ⊎ (HasByte bytes c × (to ≡ t))) [
     | inl i ↦ inl (b, ap (slice_get known) p.0 ∙ at, i)
     | inr j ↦ inr (j, sym p.0)
   ]
@@ -88,7 +88,7 @@ all_known known to b bytes at none c h = (
   at,
   elim (in_or_out bytes b c h) as (λ _. HasByte b c) [
     | inl m ↦ meet_right bytes b c m
-    | inr d ↦ absurd (no_byte c (subst (λ (s : ByteClass). HasByte s c) none d))
+    | inr d ↦ absurd (no_byte c (rw (← none) d))
   ],
 )
 
@@ -100,7 +100,7 @@ only_at e (suc j) s h = absurd (cc)
 pub known_pushed : (xs : List ByteClass) (e : ByteClass) (t c : ℕ) → e ≡ set.empty → IsKnown (xs ++ e ∷ []) t c → IsKnown xs t c
 known_pushed xs e t c none h = elim (either_part xs (e ∷ []) t h.0 h.1) as (λ _. IsKnown xs t c) [
   | inl a ↦ (h.0, a, h.2)
-  | inr b ↦ absurd (no_byte c (subst (λ (s : ByteClass). HasByte s c) (only_at e b.0 h.0 b.1 ∙ none) h.2))
+  | inr b ↦ absurd (no_byte c (rw (← only_at e b.0 h.0 b.1 ∙ none) h.2))
 ]
 
 pub get_at : {X : Type 0} (xs : List X) (i : ℕ) (d : X) → i < length xs → slice_get xs i ≡ Some (get_or xs i d)

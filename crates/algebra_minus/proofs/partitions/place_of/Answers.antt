@@ -11,7 +11,7 @@ returns-then-part-to-clause-some c =
     let part = c.part-item.result in
     let i = c.loop-part.part-index in
     let read = slice_get_read partition (length partition) i part refl c.loop-part-test.true c.part-item.is in
-    (part, subst (λ k. slice_get partition k ≡ Some part) (sym c.loop-part.invariant.0) read, c.if-part-to.true)
+    (part, rw c.loop-part.invariant.0 read, c.if-part-to.true)
 
 pub loop-part-preserved : goal.loop-part-preserved
 loop-part-preserved c =

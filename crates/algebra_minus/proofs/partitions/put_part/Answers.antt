@@ -12,7 +12,7 @@ returns-in-Some c =
     let partition = c.args.partition.now.items in
     let k = c.in-Some.k in
     let some = c.in-Some.ensures.some in
-    let at : slice_get partition k ≡ Some some.0 = subst (λ (zs : List Part). slice_get zs k ≡ Some some.0) c.as_slice.ensures.value some.1 in
+    let at : slice_get partition k ≡ Some some.0 = rw (← c.as_slice.ensures.value) some.1 in
     let part : Part = c.index.result.now in
     let read : slice_get partition k ≡ Some part = slice_get_read partition (length partition) k part refl (slice_get_within partition k some.0 at) c.index.ensures in
     let same : some.0 ≡ part = some_same some.0 part (sym at ∙ read) in
@@ -22,4 +22,4 @@ pub returns-in_ok-push-in-None : goal.returns-in_ok-push-in-None
 returns-in_ok-push-in-None c =
     let partition = c.args.partition.now.items in
     put_last partition c.args.bytes c.args.to (record { bytes = c.args.bytes; to = c.args.to }) c.push.new.self.items c.in_ok-push-in-None.ensures.items refl refl
-    (λ q h e. c.in-None.ensures.none q (subst (λ (zs : List Part). Has zs q) (sym c.as_slice.ensures.value) h) e)
+    (λ q h e. c.in-None.ensures.none q (rw c.as_slice.ensures.value h) e)

@@ -7,4 +7,4 @@ use Rattle.algebra_minus.proofs.pieces.make_room.Goals as goal
 pub loop-state-preserved : goal.loop-state-preserved
 loop-state-preserved c = λ t b h.
     let now = c.loop-state.known.items in
-    c.loop-state.invariant t b (known_pushed now c.empty.result t b c.empty.ensures (subst (λ (xs : List ByteClass). IsKnown xs t b) c.in_ok-push.ensures.items h))
+    c.loop-state.invariant t b (known_pushed now c.empty.result t b c.empty.ensures (rw (← c.in_ok-push.ensures.items) h))

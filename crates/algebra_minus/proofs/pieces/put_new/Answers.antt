@@ -24,9 +24,9 @@ returns-clause-known c = λ t b k.
       | inl i ↦ let w = c.requires t b i in (w.0, Has-append_left xs (z ∷ []) w.0 w.1, w.2, w.3)
       | inr j ↦ (z, Has-append_right xs (z ∷ []) z (inl refl), j.1.0, j.1.1)
     ] in
-    subst (λ (ws : List Way). SomeWayLeads ws b t) (sym c.in_ok-push.ensures.items) all
+    rw c.in_ok-push.ensures.items all
 
 pub returns-clause-ways : goal.returns-clause-ways
 returns-clause-ways c =
     let all = c.args.taken.now.items ++ c.args.way.now ∷ [] in
-    subst (λ (ws : List Way). LeadAlike ws all) (sym c.in_ok-push.ensures.items) (alike_same all)
+    rw c.in_ok-push.ensures.items (alike_same all)

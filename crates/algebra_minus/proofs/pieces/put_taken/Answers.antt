@@ -18,11 +18,11 @@ loop-way-preserved c =
     record {
       known = c.in_ok-put_new.ensures.known;
       ways = alike_then c.put_new.new.taken.items (xs ++ z ∷ []) (old ++ take (i + 1) ways) c.in_ok-put_new.ensures.ways
-          (subst (λ (ws : List Way). LeadAlike (xs ++ z ∷ []) ws) all (alike_more xs (old ++ take i ways) z c.loop-way.invariant.ways));
+          (rw (← all) (alike_more xs (old ++ take i ways) z c.loop-way.invariant.ways));
     }
 
 pub returns-clause-ways : goal.returns-clause-ways
 returns-clause-ways c =
     let ways = c.args.ways.now in
     let at : c.loop-way.way-index ≡ length ways = omega (arith, c.loop-way-test.false, c.loop-way.auto.way-index-end) in
-    subst (λ (ws : List Way). LeadAlike c.loop-way.taken.items (c.args.taken.now.items ++ ws)) (ap (λ k. take k ways) at ∙ take-length ways) c.loop-way.invariant.ways
+    rw (← (ap (λ k. take k ways) at ∙ take-length ways)) c.loop-way.invariant.ways

@@ -26,7 +26,7 @@ loop-state-preserved c =
     record {
       known = c.in_ok-put_taken.ensures.known;
       ways = alike_then c.put_taken.new.taken.items (xs ++ ways) (flat_map f (take (i + 1) members)) c.in_ok-put_taken.ensures.ways
-          (subst (λ (ws : List Way). LeadAlike (xs ++ ways) ws) all (alike_both xs (flat_map f (take i members)) ways c.loop-state.invariant.ways));
+          (rw (← all) (alike_both xs (flat_map f (take i members)) ways c.loop-state.invariant.ways));
       effort = omega (arith, c.charge.ensures.effort, c.loop-state.invariant.effort);
       room = omega (arith, c.charge.ensures.room, c.loop-state.invariant.room);
     }
@@ -36,4 +36,4 @@ returns-clause-ways c =
     let members = c.args.members.now in
     let at : c.loop-state.state-index ≡ length members = omega (arith, c.loop-state-test.false, c.loop-state.auto.state-index-end) in
     let f = ways_of c.args.right.now.ways.now c.args.marks in
-    subst (λ us. LeadAlike c.loop-state.taken.items (flat_map f us)) (ap (λ k. take k members) at ∙ take-length members) c.loop-state.invariant.ways
+    rw (← (ap (λ k. take k members) at ∙ take-length members)) c.loop-state.invariant.ways

@@ -20,6 +20,6 @@ returns-clause-rows c =
     let old = c.loop-way.sorted.items in
     let new = c.sort_by_key.new.self.items in
     let is : old ≡ c.args.ways.now = c.loop-way.invariant ∙ take_all c.loop-way.way-index c.args.ways.now (omega (arith, c.loop-way-test.false)) in
-    subst (λ (zs : List Way). HaveSameRows way_marks new zs) is
+    rw (← is)
     (rows_stay way_marks with_marks (λ m. refl) old new
     (c.sort_by_key.ensures.stable way_marks (always_returns_same _ (λ a r. r ≡ way_marks a.0.now) _ (λ a r q k. search rules))))

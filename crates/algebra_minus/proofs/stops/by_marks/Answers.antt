@@ -19,7 +19,7 @@ returns-clause-rows c =
     let old = c.loop-stop.sorted.items in
     let new = c.sort_by_key.new.self.items in
     let is : old ≡ c.args.stops.now = c.loop-stop.invariant ∙ take_all c.loop-stop.stop-index c.args.stops.now (omega (arith, c.loop-stop-test.false)) in
-    subst (λ (zs : List Stop). HaveSameRows stop_marks new zs) is
+    rw (← is)
     (rows_stay stop_marks with_marks (λ m. refl) old new
     (c.sort_by_key.ensures.stable stop_marks (always_returns_same _ (λ a r. r ≡ stop_marks a.0.now) _ (λ a r q k. search rules))))
 

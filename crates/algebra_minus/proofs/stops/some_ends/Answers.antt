@@ -12,7 +12,7 @@ returns-then-ends_so c =
     let x = c.stop-item.result in
     let so = c.ends_so.ensures.0 c.if-ends_so.true in
     let here : EndsIn stops c.args.set.now c.args.marks =
-    (x.state, so.1, subst (λ m. Has stops (record { state = x.state; marks = m })) so.0 (Has-item stops stops c.loop-stop.stop-index x refl c.loop-stop-test.true c.stop-item.is)) in
+    (x.state, so.1, rw (← so.0) (Has-item stops stops c.loop-stop.stop-index x refl c.loop-stop-test.true c.stop-item.is)) in
     ((λ t. here), (λ h. refl))
 
 pub loop-stop-preserved : goal.loop-stop-preserved
