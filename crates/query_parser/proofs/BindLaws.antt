@@ -10,14 +10,14 @@ pub unknown_at : (k : Known) (asked : List Asked) (i : ℕ) (a : Asked) → AreK
 unknown_at k [] i a before is not = absurd (cc)
 unknown_at k (b ∷ asked) zero a before is not =
     let same : b ≡ a = cc in
-    inl (subst (λ (c : Asked). ¬ IsNamed k.tests c.test × (c.at ≡ a.at)) (sym same) (not, refl))
+    inl (rw same (not, refl))
 unknown_at k (b ∷ asked) (suc i) a before is not =
     inr (before b (inl refl), unknown_at k asked i a (λ c h. before c (inr h)) is not)
 
 known_next : (k : Known) (asked : List Asked) (i : ℕ) (a : Asked) → AreKnown k (take i asked) → slice_get asked i ≡ Some a → IsNamed k.tests a.test → AreKnown k (take (suc i) asked)
 known_next k [] i a before is there = absurd (cc)
 known_next k (b ∷ asked) zero a before is there = λ c h. elim h [
-  | inl e ↦ (let same : a ≡ c = cc in subst (λ (x : Asked). IsNamed k.tests x.test) same there)
+  | inl e ↦ (let same : a ≡ c = cc in rw (← same) there)
   | inr h ↦ absurd h
 ]
 known_next k (b ∷ asked) (suc i) a before is there =
@@ -27,7 +27,7 @@ known_next k (b ∷ asked) (suc i) a before is there =
 pub known_more : (k : Known) (asked : List Asked) (i : ℕ) (a : Asked) → AreKnown k (take i asked) → slice_get asked i ≡ Some a → IsNamed k.tests a.test → AreKnown k (take (i + 1) asked)
 known_more k asked i a before is there =
     let e : suc i ≡ i + 1 = omega arith in
-    subst (λ (n : ℕ). AreKnown k (take n asked)) e (known_next k asked i a before is there)
+    rw (← e) (known_next k asked i a before is there)
 
 pub named_of : (tests : List (List ℕ × ℕ)) (name : List ℕ) (r : Option ℕ) → is_none r ≡ false → IfSome r (IsFirstNamed tests name) → IsNamed tests name
 named_of tests name None some first = absurd (cc)

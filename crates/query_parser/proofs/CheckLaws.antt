@@ -33,12 +33,12 @@ module _ (V S : ℕ → VarName → Type 0) where
   -- the first part that has a fault gives it
   pub union_inner : (es : List ExprTree) (k : ℕ) (e : ExprTree) (f : QueryFault) → slice_get es k ≡ Some e → AllPass (take k es) → IsExprFault V S e f → InnerFault V S (union_all es) f
   union_inner [] k e f at ok h = absurd (cc)
-  union_inner (g ∷ es) zero e f at ok h = inl (let is : g ≡ e = cc in subst (λ (w : ExprTree). IsExprFault V S w f) (sym is) h)
+  union_inner (g ∷ es) zero e f at ok h = inl (let is : g ≡ e = cc in rw is h)
   union_inner (g ∷ es) (suc k) e f at ok h = inr (ok g (inl refl), union_inner es k e f at (λ w a. ok w (inr a)) h)
 
   pub join_inner : (es : List ExprTree) (k : ℕ) (e : ExprTree) (f : QueryFault) → slice_get es k ≡ Some e → AllPass (take k es) → IsExprFault V S e f → InnerFault V S (join_all es) f
   join_inner [] k e f at ok h = absurd (cc)
-  join_inner (g ∷ es) zero e f at ok h = inl (let is : g ≡ e = cc in subst (λ (w : ExprTree). IsExprFault V S w f) (sym is) h)
+  join_inner (g ∷ es) zero e f at ok h = inl (let is : g ≡ e = cc in rw is h)
   join_inner (g ∷ es) (suc k) e f at ok h = inr (ok g (inl refl), join_inner es k e f at (λ w a. ok w (inr a)) h)
 
   pass_more : (es : List ExprTree) (e : ExprTree) → AllPass es → Passes V S e → AllPass (es ++ e ∷ [])
@@ -74,7 +74,7 @@ module _ (V S : ℕ → VarName → Type 0) where
   pub union_begin : (es : List ExprTree) (e : ExprTree) (b : BoundNames) → slice_get es 0 ≡ Some e → Passes V S e → IsBoundOf V S e b → AllPass (take 1 es) × IsBoundOf V S (union_all (take 1 es)) b
   union_begin es e b at ok is = (
     pass_next es 0 e at (λ u h. absurd h) ok,
-    subst (λ (us : List ExprTree). IsBoundOf V S (union_all us) b) (sym (take_at_more es 0 e at))
+    rw (take_at_more es 0 e at)
         ((λ x. (λ h. inl ((is.0 x).0 h), λ h. (is.0 x).1 (elim h as (λ _. VarOf V e x) [ inl a ↦ a | inr n ↦ absurd n ]))), (λ x. (λ h. ((is.1 x).0 h, tt), λ h. (is.1 x).1 h.0))),
   )
 
@@ -82,7 +82,7 @@ module _ (V S : ℕ → VarName → Type 0) where
   pub union_next : (es : List ExprTree) (k : ℕ) (e : ExprTree) (old part new : BoundNames) → slice_get es k ≡ Some e → IsBoundOf V S (union_all (take k es)) old → IsBoundOf V S e part →
       Adds old.vars (Has part.vars) new.vars → ((x : VarName) → Has new.sure x ↔ (Has old.sure x × Has part.sure x)) → IsBoundOf V S (union_all (take (k + 1) es)) new
   union_next es k e old part new at before here vars sure =
-      subst (λ (us : List ExprTree). IsBoundOf V S (union_all us) new) (sym (take_at_more es k e at)) (
+      rw (take_at_more es k e at) (
         λ x. (
           λ h. (union_vars_more (take k es) e x).1 (elim ((vars x).0 h) as (λ _. VarOf V (union_all (take k es)) x ⊎ VarOf V e x) [ inl a ↦ inl ((before.0 x).0 a) | inr b ↦ inr ((here.0 x).0 b) ]),
           λ h. (vars x).1 (elim ((union_vars_more (take k es) e x).0 h) as (λ _. Has old.vars x ⊎ Has part.vars x) [ inl a ↦ inl ((before.0 x).1 a) | inr b ↦ inr ((here.0 x).1 b) ]),
@@ -97,7 +97,7 @@ module _ (V S : ℕ → VarName → Type 0) where
       Passes V S (union_all es) × IsBoundOf V S (union_all es) b
   union_done es k b le ok is =
       let all : take k es ≡ es = take_all k es le in
-      (union_passes es (subst AllPass all ok), subst (λ (us : List ExprTree). IsBoundOf V S (union_all us) b) all is)
+      (union_passes es (subst AllPass all ok), rw (← all) is)
 
   -- ---- joins
 
@@ -137,11 +137,11 @@ module _ (V S : ℕ → VarName → Type 0) where
   -- where parts share only what is sure in both, a variable that is sure in one is sure in each that has it
   settled : (es : List ExprTree) → AreSharing es → AreSureVars es → (g h : ExprTree) → Has es g → Has es h → (x : VarName) → VarOf V g x → SureOf S h x → SureOf S g x
   settled [] share among g h a b x v s = absurd a
-  settled (e ∷ es) share among g h (inl a) (inl b) x v s = subst (λ (w : ExprTree). SureOf S w x) a (subst (λ (w : ExprTree). SureOf S w x) (sym b) s)
+  settled (e ∷ es) share among g h (inl a) (inl b) x v s = rw (← a) (rw b s)
   settled (e ∷ es) share among g h (inl a) (inr b) x v s =
-      subst (λ (w : ExprTree). SureOf S w x) a (shares_with e es h share.0 b x (subst (λ (w : ExprTree). VarOf V w x) (sym a) v) (among h (inr b) x s)).0
+      rw (← a) (shares_with e es h share.0 b x (rw a v) (among h (inr b) x s)).0
   settled (e ∷ es) share among g h (inr a) (inl b) x v s =
-      (shares_with e es g share.0 a x (subst (λ (w : ExprTree). VarOf V w x) (sym b) (among h (inl b) x s)) v).1
+      (shares_with e es g share.0 a x (rw b (among h (inl b) x s)) v).1
   settled (e ∷ es) share among g h (inr a) (inr b) x v s = settled es share.1 (λ w c. among w (inr c)) g h a b x v s
 
   -- of these parts, the first variable that clashes
@@ -178,7 +178,7 @@ module _ (V S : ℕ → VarName → Type 0) where
   clash_here before (u ∷ es) e x share sharing h = inr ((λ y c. c.4 ((share c.0 c.1).0 y c.2 c.3)), clash_here (u ∷ before) es e x next sharing.1 h)
     where
       next : (g : ExprTree) → Has (u ∷ before) g → SharesSure V S g (join_all es)
-      next g (inl is) = subst (λ (w : ExprTree). SharesSure V S w (join_all es)) is sharing.0
+      next g (inl is) = rw (← is) sharing.0
       next g (inr has) = (share g has).1
 
   -- what is unsure in the parts so far and one more clashes there, where none clashed before
@@ -227,7 +227,7 @@ module _ (V S : ℕ → VarName → Type 0) where
       IsBoundOf V S (join_all (take k es)) old → IsBoundOf V S e part → IsFirstClash (take k es) found →
       IfSome found (λ x. next ≡ Some x) → IfNone found (IsLeastOf (IsUnsureIn old part) next) → IsFirstClash (take (k + 1) es) next
   clash_next es k e old part found next at among before here h kept new =
-      subst (λ (us : List ExprTree). IsFirstClash us next) (sym (take_at_more es k e at)) (clash_more (take k es) e old part found next among before here h kept new)
+      rw (take_at_more es k e at) (clash_more (take k es) e old part found next among before here h kept new)
 
   -- a set of one part more
   added : (P Q R : VarName → Type 0) (old part new : List VarName) → ((x : VarName) → R x ↔ (P x ⊎ Q x)) → ((x : VarName) → Has old x ↔ P x) → ((x : VarName) → Has part x ↔ Q x) →
@@ -241,7 +241,7 @@ module _ (V S : ℕ → VarName → Type 0) where
       Adds old.vars (Has part.vars) new.vars → Adds old.sure (Has part.sure) new.sure → IsBoundOf V S (join_all (take (k + 1) es)) new
   join_next es k e old part new at before here vars sure =
       let us = take k es in
-      subst (λ (ws : List ExprTree). IsBoundOf V S (join_all ws) new) (sym (take_at_more es k e at)) (
+      rw (take_at_more es k e at) (
         added (VarOf V (join_all us)) (VarOf V e) (VarOf V (join_all (us ++ e ∷ []))) old.vars part.vars new.vars
             (in_more (VarOf V) (λ ws. VarOf V (join_all ws)) (exprs_in_turn V) us e) before.0 here.0 vars,
         added (SureOf S (join_all us)) (SureOf S e) (SureOf S (join_all (us ++ e ∷ []))) old.sure part.sure new.sure
@@ -257,7 +257,7 @@ module _ (V S : ℕ → VarName → Type 0) where
       IsFirstClash (take k es) found → found ≡ Some x → IsExprFault V S (join_all es) (JoinUnsure x)
   join_done_fault es k x found le ok h is =
       let all : take k es ≡ es = take_all k es le in
-      let clash : ClashesFirst V S [] (join_all es) x = subst (λ (us : List ExprTree). ClashesFirst V S [] (join_all us) x) all (subst (IsFirstClash (take k es)) is h) in
+      let clash : ClashesFirst V S [] (join_all es) x = rw (← all) (subst (IsFirstClash (take k es)) is h) in
       inr (join_parts_pass es (subst AllPass all ok), join_own es x clash)
 
   pub join_done : (es : List ExprTree) (k : ℕ) (b : BoundNames) (found : Option VarName) → length es ≤ k → AllPass (take k es) →
@@ -265,7 +265,7 @@ module _ (V S : ℕ → VarName → Type 0) where
   join_done es k b found le ok h is bound =
       let all : take k es ≡ es = take_all k es le in
       let share : AreSharing es = subst AreSharing all (subst (IsFirstClash (take k es)) is h) in
-      (join_passes es (subst AllPass all ok) share, subst (λ (us : List ExprTree). IsBoundOf V S (join_all us) b) all bound)
+      (join_passes es (subst AllPass all ok) share, rw (← all) bound)
 
   -- a join of no parts yet
   pub join_begin : (es : List ExprTree) (b : BoundNames) → ((x : VarName) → Has b.vars x → ⊥) → ((x : VarName) → Has b.sure x → ⊥) → IsBoundOf V S (join_all (take 0 es)) b
@@ -303,7 +303,7 @@ module _ (V S : ℕ → VarName → Type 0) where
   minus_done names e g a b (Ok bound) ok left other right (same, none) =
       let both = in_other (bound_in names a) (bound_in names b) none in (
         (ok, other, λ x. (λ v. (right.0 x).0 ((both x).0 ((left.0 x).1 v)), λ v. (left.0 x).0 ((both x).1 ((right.0 x).1 v)))),
-        subst (λ (c : Bound). IsBoundOf V S (minus e g) (bound_in names c)) (sym same) left,
+        rw same left,
       )
   minus_done names e g a b (Err f) ok left other right (x, least, is) =
       let own = least_same (IsInOne (bound_in names a) (bound_in names b)) (IsOfOneSide V S e g) (Some x) (one_side e g (bound_in names a) (bound_in names b) left right) least in

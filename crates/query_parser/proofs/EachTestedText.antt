@@ -96,7 +96,7 @@ missing_or_all V told (a ∷ asked) = by (told a.var) (missing_or_all V told ask
         ((x : VarName) × FirstMissing V (a ∷ asked) x) ⊎ ((b : Asked) → Has (a ∷ asked) b → V b.var)
     by (inr none) later = inl (a.var, inl (none, refl))
     by (inl here) (inl (x, missing)) = inl (x, inr (here, missing))
-    by (inl here) (inr all) = inr (λ b h. elim h as (λ _. V b.var) [ inl same ↦ subst (λ (z : Asked). V z.var) same here | inr has ↦ all b has ])
+    by (inl here) (inr all) = inr (λ b h. elim h as (λ _. V b.var) [ inl same ↦ rw (← same) here | inr has ↦ all b has ])
 
 spelled_told : (text : List ℕ) (t : TestedTree) → length text ≤ MOST_TEXT_BYTES → IsText text → SpellsTested text t → TestedOrFault text
 spelled_told text t short bytes s = named (told_names t.query)
@@ -135,7 +135,7 @@ each_tested text all = by (nat_lt MOST_TEXT_BYTES (length text)) refl
         end (e, f, run, inl (d, stop)) = inr (d, unreadable short (stop_fault (p, reading_of n, after, begin_begins begin, run) stop))
         end (e, f, run, inr (here, last)) =
             read_told text q many f.asked short bytes
-            (with_where begin (e, subst (λ l. Run test_move text after no_test_read e (tests_at f.asked l)) last run, here))
+            (with_where begin (e, rw (← last) run, here))
 
     refused : length text ≤ MOST_TEXT_BYTES → (e : QueryFault) → IsReadFault text e → Begins text ⊎ HasNoTests text → TestedOrFault text
     refused short e f (inl begins) = behind short begins
@@ -165,7 +165,7 @@ no_where (tests_follow follow) e = absurd (not_none follow e)
 spelled_plain : (text : List ℕ) (q : QueryTree) → SpellsTested text (plain q) → SpellsQuery text q
 spelled_plain text q s =
     let none = no_where s.spells_tests refl in
-    let has : HasPlaced text 0 s.query = subst (HasPlaced text 0) (append-nil s.query) (subst (λ ts. HasPlaced text 0 (s.query ++ ts)) none s.placed) in
+    let has : HasPlaced text 0 s.query = subst (HasPlaced text 0) (append-nil s.query) (rw (← none) s.placed) in
     (tokens_of s.query, placed_tokens has, s.spells_query)
 
 not_begun : {text : List ℕ} {q : QueryTree} {asked : List Asked} → HasNoTests text → IsReadAs text q false asked → SpellsQuery text q × (asked ≡ [])
@@ -184,7 +184,7 @@ fault_before text e none (too_many_kept {r = r} h (with_tests {p = p} {q = q} b 
 fault_before text e none (too_many_captured {t = t} h s many) = plain_fault.too_many_captured {q = t.query} h (not_begun none (spelled_read s)).0 many
 fault_before text e none (not_sound {t = t} h s few f) = plain_fault.not_sound {q = t.query} h (not_begun none (spelled_read s)).0 few f
 fault_before text e none (no_variable {t = t} {x = x} h s sound missing) =
-    absurd (subst (λ asked. FirstMissing (IsResultVar t.query) asked x) (not_begun none (spelled_read s)).1 missing)
+    absurd (rw (not_begun none (spelled_read s)).1 at missing)
 
 fault_after : (text : List ℕ) (e : QueryFault) → HasNoTests text → HasFault text e → HasTestedFault text e
 fault_after text e none (plain_fault.too_long h) = too_long h

@@ -170,5 +170,5 @@ formed_lets (more_lets {t = t} {u = u} {lets = lets} {x = x} {es = es} s free ne
     by (inr (here, same)) others =
         let inner = (built_split t (let_word ∷ name_token x ∷ equals ∷ (u ++ semicolon ∷ [])) b).1 in
         let f = formed_whole e (built_split u (semicolon ∷ []) inner).0 (omega (arith, few, lets_more lets x (union_tree es))) in
-        subst (λ (z : VarName × ExprTree). IsFormed k z.1 × (expr_nesting z.1 ≤ 600) × IsFreeName z.0) same
-        (subst (λ n. IsFormed n (union_tree es)) (names_len lets ∙ sym here) f.0, f.1, free)
+        rw (← same)
+        (rw (← names_len lets ∙ sym here) f.0, f.1, free)

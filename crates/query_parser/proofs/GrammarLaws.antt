@@ -27,7 +27,7 @@ one_end (suc k) zero text at n r s (inr (a, (t, q, m, found, moves, rest))) (inr
 one_end (suc k) (suc l) text at n r s (inl (len, m, a, x)) (inl (len', m', b, y)) =
     let same_len : len ≡ len' = cc in
     let same : m ≡ m' = cc in
-    one_end k l text (at + len) m r s x (subst (λ z. EndsAfter l text (at + z) m s) (sym same_len) (subst (λ z. EndsAfter l text (at + len') z s) (sym same) y))
+    one_end k l text (at + len) m r s x (rw same_len (rw same y))
 one_end (suc k) (suc l) text at n r s (inl (len, m, a, x)) (inr (b, rest)) = absurd (cc)
 one_end (suc k) (suc l) text at n r s (inr (a, rest)) (inl (len, m, b, y)) = absurd (cc)
 one_end (suc k) (suc l) text at n r s (inr (a, (t, q, m, found, moves, x))) (inr (b, (t', q', m', found', moves', y))) =
@@ -36,7 +36,7 @@ one_end (suc k) (suc l) text at n r s (inr (a, (t, q, m, found, moves, x))) (inr
     let same_atom : t ≡ t' = ap (λ (z : AtomTree × ℕ). z.0) pair in
     let moved : ◌≡◌ {A = Move} (Ok m) (Ok m') = sym moves ∙ ap (λ z. move (atom_token z) n) same_atom ∙ moves' in
     let same : m ≡ m' = cc in
-    one_end k l text q m r s x (subst (λ z. EndsAfter l text z m s) (sym same_place) (subst (λ z. EndsAfter l text q' z s) (sym same) y))
+    one_end k l text q m r s x (rw same_place (rw same y))
 
 pub same_answer : (text : List ℕ) (r s : Answer) → EndsReading text 0 outermost r → EndsReading text 0 outermost s → r ≡ s
 same_answer text r s (k, a) (l, b) = one_end k l text 0 outermost r s a b

@@ -25,14 +25,14 @@ use Rattle.query_parser.proofs.SureLaws.{sure_var}
 pub all_names : (q : QueryTree) (k : ℕ) (old new : List VarName) → length q.lets ≤ k → Adds [] (NameInLets (take k q.lets)) old → Adds old (NameIn q.body) new →
     (x : VarName) → NameOf q x → Has new x
 all_names q k old new le a g x h =
-    let lets : Adds [] (NameInLets q.lets) old = subst (λ (ls : List (VarName × ExprTree)). Adds [] (NameInLets ls) old) (take_all k q.lets le) a in
+    let lets : Adds [] (NameInLets q.lets) old = rw (← take_all k q.lets le) a in
     (g x).1 (elim h as (λ _. Has old x ⊎ NameIn q.body x) [ inl n ↦ inl ((lets x).1 (inr n)) | inr n ↦ inr n ])
 
 -- where there is no room for those of the body, or of the lets, they are too many
 pub many_names : (q : QueryTree) (k : ℕ) (old new : List VarName) → length q.lets ≤ k → Adds [] (NameInLets (take k q.lets)) old → Gathered old (NameIn q.body) false new →
     AtMost MOST_VARIABLES (NameOf q) → ⊥
 many_names q k old new le a g few =
-    let lets : Adds [] (NameInLets q.lets) old = subst (λ (ls : List (VarName × ExprTree)). Adds [] (NameInLets ls) old) (take_all k q.lets le) a in
+    let lets : Adds [] (NameInLets q.lets) old = rw (← take_all k q.lets le) a in
     g.1 (at_most_less MOST_VARIABLES (λ x. Has old x ⊎ NameIn q.body x) (NameOf q)
     (λ x h. elim h as (λ _. NameOf q x) [
       | inl o ↦ elim ((lets x).0 o) as (λ _. NameOf q x) [ inl n ↦ absurd n | inr n ↦ inl n ]
@@ -54,7 +54,7 @@ pub record Knows (lets : List (VarName × ExprTree)) (known : List BoundNames) :
 -- at each place of a list with one more
 more_at : (P : BoundNames → Type 0) (N : VarName × ExprTree → Type 0) (Q : Type 0) (b : Bool) (new : BoundNames) (old : Option BoundNames) (o : Option (VarName × ExprTree)) (l : VarName × ExprTree) →
     o ≡ Some l → (P new ↔ N l) → (IsSomeAnd old P ↔ Q) → IsSomeAnd (if b then Some new else old) P ↔ MatchBool b (IsSomeAnd o N) Q
-more_at P N Q true new old o l at here before = subst (λ w. P new ↔ IsSomeAnd w N) (sym at) here
+more_at P N Q true new old o l at here before = rw at here
 more_at P N Q false new old o l at here before = before
 
 among_at : (x : VarName) (b : Bool) (new : BoundNames) (old : Option BoundNames) → (Has new.sure x → Has new.vars x) → (IsSomeAnd old (λ c. Has c.sure x) → IsSomeAnd old (λ c. Has c.vars x)) →
@@ -71,20 +71,20 @@ knows_more lets known l new at knows formed is = record {
         λ h. var_same (vars_known known) V knows.vars l.1 x ((is.0 x).0 h),
         λ h. (is.0 x).1 (var_same V (vars_known known) (turned (vars_known known) V knows.vars) l.1 x h),
       ) in
-      subst (λ m. vars_known (known ++ new ∷ []) j x ↔ vars_of_lets lets m j x) (sym long)
-      (subst (λ o. IsSomeAnd o (λ b. Has b.vars x) ↔ vars_of_lets lets (suc n) j x) (sym (slice_get_push known new j))
+      rw long
+      (rw (slice_get_push known new j)
       (more_at (λ b. Has b.vars x) (λ m. VarOf V m.1 x) (V j x) (nat_eq j n) new (slice_get known j) (slice_get lets n) l at here (knows.vars j x)));
   sure = λ j x.
       let here : Has new.sure x ↔ SureOf S l.1 x = (
         λ h. sure_same (sure_known known) S knows.sure l.1 x ((is.1 x).0 h),
         λ h. (is.1 x).1 (sure_same S (sure_known known) (turned (sure_known known) S knows.sure) l.1 x h),
       ) in
-      subst (λ m. sure_known (known ++ new ∷ []) j x ↔ sure_of_lets lets m j x) (sym long)
-      (subst (λ o. IsSomeAnd o (λ b. Has b.sure x) ↔ sure_of_lets lets (suc n) j x) (sym (slice_get_push known new j))
+      rw long
+      (rw (slice_get_push known new j)
       (more_at (λ b. Has b.sure x) (λ m. SureOf S m.1 x) (S j x) (nat_eq j n) new (slice_get known j) (slice_get lets n) l at here (knows.sure j x)));
   among = λ j x.
       let here : Has new.sure x → Has new.vars x = λ h. (is.0 x).1 (sure_var (vars_known known) (sure_known known) knows.among n l.1 x formed ((is.1 x).0 h)) in
-      subst (λ o. IsSomeAnd o (λ b. Has b.sure x) → IsSomeAnd o (λ b. Has b.vars x)) (sym (slice_get_push known new j)) (among_at x (nat_eq j n) new (slice_get known j) here (knows.among j x));
+      rw (slice_get_push known new j) (among_at x (nat_eq j n) new (slice_get known j) here (knows.among j x));
 }
   where
     n : ℕ
@@ -102,20 +102,20 @@ knows_more lets known l new at knows formed is = record {
 fault_under : (lets : List (VarName × ExprTree)) (known : List BoundNames) (k : ℕ) (e : ExprTree) (f : QueryFault) → length known ≡ k →
     Knows lets known → IsExprFault (vars_known known) (sure_known known) e f → IsFaultUnder lets k e f
 fault_under lets known k e f long knows fault =
-    subst (λ n. IsFaultUnder lets n e f) long
+    rw (← long)
     (same_fault (vars_known known) (vars_of_lets lets (length known)) (sure_known known) (sure_of_lets lets (length known)) knows.vars knows.sure e f fault)
 
 passes_under : (lets : List (VarName × ExprTree)) (known : List BoundNames) (k : ℕ) (e : ExprTree) → length known ≡ k → Knows lets known →
     Passes (vars_known known) (sure_known known) e → PassesUnder lets k e
 passes_under lets known k e long knows pass =
-    subst (λ n. PassesUnder lets n e) long
+    rw (← long)
     (same_passes (vars_known known) (vars_of_lets lets (length known)) (sure_known known) (sure_of_lets lets (length known)) knows.vars knows.sure e pass)
 
 -- the fault of a let is one of the query, where those before it pass
 pub let_fault : (q : QueryTree) (known : List BoundNames) (k : ℕ) (l : VarName × ExprTree) (e : QueryFault) → slice_get q.lets k ≡ Some l → length known ≡ k → Knows q.lets known →
     ((j : ℕ) → j < k → LetPasses q.lets j) → IsExprFault (vars_known known) (sure_known known) l.1 e → IsTreeFault q e
 let_fault q known k l e at long knows passed fault =
-    inl (k, passed, subst (λ o. IsSomeAnd o (λ m. IsFaultUnder q.lets k m.1 e)) (sym at) (fault_under q.lets known k l.1 e long knows fault))
+    inl (k, passed, rw at (fault_under q.lets known k l.1 e long knows fault))
 
 pub record KnowsMore (q : QueryTree) (known : List BoundNames) (k : ℕ) : Type 0 where
   pub long : length known ≡ k + 1
@@ -128,7 +128,7 @@ pub known_next : (q : QueryTree) (known : List BoundNames) (k : ℕ) (l : VarNam
     Passes (vars_known known) (sure_known known) l.1 → IsBoundOf (vars_known known) (sure_known known) l.1 new → KnowsMore q (known ++ new ∷ []) k
 known_next q known k l new at long knows passed formed pass is = record {
   long = omega (arith, long, length-append known (new ∷ []));
-  knows = knows_more q.lets known l new (subst (λ n. slice_get q.lets n ≡ Some l) (sym long) at) knows (subst (λ n. IsFormed n l.1) (sym long) formed) is;
+  knows = knows_more q.lets known l new (rw long at) knows (rw long formed) is;
   passed = λ j below. by j (nat_lt j k) refl below;
 }
   where
@@ -136,7 +136,7 @@ known_next q known k l new at long knows passed formed pass is = record {
     by j true e below = passed j (grind (arith, nat_tests))
     by j false e below =
         let same : k ≡ j = grind (arith, nat_tests) in
-        λ m is. let one : l ≡ m = cc in subst (λ (z : VarName × ExprTree). PassesUnder q.lets j z.1) one (subst (λ n. PassesUnder q.lets n l.1) same (passes_under q.lets known k l.1 long knows pass))
+        λ m is. let one : l ≡ m = cc in rw (← one) (rw (← same) (passes_under q.lets known k l.1 long knows pass))
 
 pub body_fault : (q : QueryTree) (known : List BoundNames) (e : QueryFault) → length known ≡ length q.lets → Knows q.lets known → ((j : ℕ) → LetPasses q.lets j) →
     IsExprFault (vars_known known) (sure_known known) q.body e → IsTreeFault q e
@@ -149,6 +149,6 @@ all_pass q known long knows passed pass = (passed, passes_under q.lets known (le
 -- what is known of a let is that of its name
 pub named_bound : (known : List BoundNames) (k : ℕ) (b : BoundNames) → slice_get known k ≡ Some b → IsBoundOf (vars_known known) (sure_known known) (named k) b
 named_bound known k b at = (
-  λ x. subst (λ o. Has b.vars x ↔ IsSomeAnd o (λ c. Has c.vars x)) (sym at) (λ h. h, λ h. h),
-  λ x. subst (λ o. Has b.sure x ↔ IsSomeAnd o (λ c. Has c.sure x)) (sym at) (λ h. h, λ h. h),
+  λ x. rw at (λ h. h, λ h. h),
+  λ x. rw at (λ h. h, λ h. h),
 )

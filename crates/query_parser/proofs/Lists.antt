@@ -63,11 +63,11 @@ find_gives (y ∷ ys) x k e = by (find ys x) refl (bytes_eq y x) refl (find_give
     by (Some j) f b d others =
         let g : number_from (bytes_eq y x) (find ys x) ≡ Some (suc j) = ap (number_from (bytes_eq y x)) f in
         let same : suc j ≡ k = cc in
-        subst (λ i. slice_get (y ∷ ys) i ≡ Some x) same (others j f)
+        rw (← same) (others j f)
     by None f true d others =
         let g : number_from (bytes_eq y x) (find ys x) ≡ Some 0 = ap (λ b. number_from b (find ys x)) d ∙ ap (number_from true) f in
         let same : 0 ≡ k = cc in
-        subst (λ i. slice_get (y ∷ ys) i ≡ Some x) same (ap (λ z. Some z) (eq_is y x d))
+        rw (← same) (ap (λ z. Some z) (eq_is y x d))
     by None f false d others =
         let g : number_from (bytes_eq y x) (find ys x) ≡ None = ap (λ b. number_from b (find ys x)) d ∙ ap (number_from false) f in absurd (cc)
 
@@ -147,7 +147,7 @@ room_keeps keep x up few room = by (is_among keep x) refl room
     by : (b : Bool) → is_among keep x ≡ b → (b || nat_lt (length keep) MOST_VARIABLES) ≡ true → length (with_name x keep) ≤ MOST_VARIABLES
     by true e h =
         let g = has_at keep x (among_has keep x e) in
-        subst (λ (names : List VarName). length names ≤ MOST_VARIABLES) (sym (there_is keep g.0 x up g.1 g.2)) few
+        rw (there_is keep g.0 x up g.1 g.2) few
     by false e h = let longer = with_name_new x keep e in grind (arith, nat_tests)
 
 -- what adding a name answers

@@ -111,27 +111,27 @@ IsRead ts n = Read ts n.lets n.current n.below n.top n.last
 -- the expression that a unit ends
 pub conj_of : {names : List VarName} {room : ℕ} {t : List Token} {e : ExprTree} (us : List ExprTree) (b : List Token) → UnitsBefore names room us b → SpellsUnit names room t e →
     (es : List ExprTree) × (whole_conj us e ≡ join_tree es) × SpellsConj names room (b ++ t) es
-conj_of {names = names} {room = room} {t = t} {e = e} [] b none s = (e ∷ [], refl, subst (λ x. SpellsConj names room (x ++ t) (e ∷ [])) (sym none) (lone_unit s))
+conj_of {names = names} {room = room} {t = t} {e = e} [] b none s = (e ∷ [], refl, rw none (lone_unit s))
 conj_of {names = names} {room = room} {t = t} {e = e} (u ∷ us) b (d, is, c) s = (
   (u ∷ us) ++ e ∷ [],
   cons_join u e us,
-  subst (λ x. SpellsConj names room x ((u ∷ us) ++ e ∷ [])) (sym (append_assoc d (join_word ∷ []) t) ∙ ap (λ x. x ++ t) (sym is)) (more_units c s),
+  rw (← (sym (append_assoc d (join_word ∷ []) t) ∙ ap (λ x. x ++ t) (sym is))) (more_units c s),
 )
 
 pub expr_of : {names : List VarName} {room : ℕ} {t : List Token} {es : List ExprTree} (cs : List ExprTree) (left : Option ExprTree) (f : List Token) →
     ConjsBefore names room cs left f → SpellsConj names room t es →
     (ds : List ExprTree) × (whole_expr cs (less left (join_tree es)) ≡ union_tree ds) × SpellsExpr names room (f ++ t) ds
 expr_of {names = names} {room = room} {t = t} {es = es} [] None f none s =
-    (join_tree es ∷ [], refl, subst (λ x. SpellsExpr names room (x ++ t) (join_tree es ∷ [])) (sym none) (lone_conj s))
+    (join_tree es ∷ [], refl, rw none (lone_conj s))
 expr_of {names = names} {room = room} {t = t} {es = es} (c ∷ cs) None f (d, is, h) s = (
   (c ∷ cs) ++ join_tree es ∷ [],
   cons_union c (join_tree es) cs,
-  subst (λ x. SpellsExpr names room x ((c ∷ cs) ++ join_tree es ∷ [])) (sym (append_assoc d (union_word ∷ []) t) ∙ ap (λ x. x ++ t) (sym is)) (more_conjs h s),
+  rw (← (sym (append_assoc d (union_word ∷ []) t) ∙ ap (λ x. x ++ t) (sym is))) (more_conjs h s),
 )
 expr_of {names = names} {room = room} {t = t} {es = es} [] (Some l) f (d, fs, is, h, same) s = (
   minus (union_tree fs) (join_tree es) ∷ [],
   ap (λ g. minus g (join_tree es)) same,
-  subst (λ x. SpellsExpr names room x (minus (union_tree fs) (join_tree es) ∷ [])) (sym (append_assoc d (name_token minus_word ∷ []) t) ∙ ap (λ x. x ++ t) (sym is)) (less_conj h s),
+  rw (← (sym (append_assoc d (name_token minus_word ∷ []) t) ∙ ap (λ x. x ++ t) (sym is))) (less_conj h s),
 )
 expr_of (c ∷ cs) (Some l) f none s = absurd none
 
@@ -144,17 +144,16 @@ whole_read {names = names} {room = room} {b = b} {t = t} {cs = cs} {us = us} {le
     let (ds, same, x) = expr_of cs left f.front f.conjs_read c in (
       ds,
       ap (λ d. whole_expr cs (less left d)) is ∙ same,
-      subst (λ y. SpellsExpr names room y ds) (sym (append_assoc f.front f.back t) ∙ ap (λ y. y ++ t) (sym f.splits)) x,
+      rw (← (sym (append_assoc f.front f.back t) ∙ ap (λ y. y ++ t) (sym f.splits))) x,
     )
 
 -- the frame around a closed one has one unit more
 pub closed_read : {names : List VarName} {room : ℕ} {t : List Token} {ds : List ExprTree} (keep : Option (List VarName)) (c : List Token) → OpenerRead names room keep c →
     SpellsExpr names room t ds → SpellsUnit names (suc room) (c ++ (t ++ close_paren ∷ [])) (keeping keep (union_tree ds))
 closed_read {names = names} {room = room} {t = t} {ds = ds} None c is s =
-    subst (λ x. SpellsUnit names (suc room) (x ++ (t ++ close_paren ∷ [])) (union_tree ds)) (sym is) (group_of s)
+    rw is (group_of s)
 closed_read {names = names} {room = room} {t = t} {ds = ds} (Some keep) c (d, is, k) s =
-    subst (λ x. SpellsUnit names (suc room) x (project keep (union_tree ds)))
-    (ap (λ x. project_word ∷ x) (sym (append_assoc d (open_paren ∷ []) (t ++ close_paren ∷ []))) ∙ ap (λ x. x ++ (t ++ close_paren ∷ [])) (sym is)) (projection_of k s)
+    rw (← (ap (λ x. project_word ∷ x) (sym (append_assoc d (open_paren ∷ []) (t ++ close_paren ∷ []))) ∙ ap (λ x. x ++ (t ++ close_paren ∷ [])) (sym is))) (projection_of k s)
 
 pub no_frame : (names : List VarName) (room : ℕ) → FrameRead names room [] None [] []
 no_frame names room = record { front = []; back = []; splits = refl; conjs_read = refl; units_read = refl }
@@ -216,9 +215,9 @@ read_let {ts = ts} {lets = lets} {current = current} {below = below} {top = top}
     let new : Read (r.whole_lets ++ let_word ∷ []) lets current [] (empty_frame None) after_let =
     beginning r.whole_lets (let_word ∷ []) after_let r.lets_read (refl, r.let_read.1) refl (refl, refl) in
     let front : ts ≡ r.whole_lets = text ∙ ap (λ l. r.whole_lets ++ l) r.let_read.0 ∙ append-nil r.whole_lets in
-    subst (λ x. Read (x ++ let_word ∷ []) lets current below top after_let) (sym front)
-    (subst (λ b. Read (r.whole_lets ++ let_word ∷ []) lets current b top after_let) (sym r.bare.0)
-    (subst (λ f. Read (r.whole_lets ++ let_word ∷ []) lets current [] f after_let) (sym r.bare.1) new))
+    rw front
+    (rw r.bare.0
+    (rw r.bare.1 new))
 
 -- the name of a let
 pub read_let_name : {ts : List Token} {lets : List (VarName × ExprTree)} {current : Option VarName} {below : List Frame} {top : Frame} (x : VarName) → IsFreeName x →
@@ -229,9 +228,9 @@ read_let_name {ts = ts} {lets = lets} {below = below} {top = top} x free new r =
     beginning r.whole_lets (let_word ∷ name_token x ∷ []) after_name r.lets_read (refl, free, new) refl (refl, refl) in
     let front : ts ++ name_token x ∷ [] ≡ r.whole_lets ++ let_word ∷ name_token x ∷ [] =
     ap (λ t. t ++ name_token x ∷ []) (text ∙ ap (λ l. r.whole_lets ++ l) r.let_read.0) ∙ append_assoc r.whole_lets (let_word ∷ []) (name_token x ∷ []) in
-    subst (λ t. Read t lets (Some x) below top after_name) (sym front)
-    (subst (λ b. Read (r.whole_lets ++ let_word ∷ name_token x ∷ []) lets (Some x) b top after_name) (sym r.bare.0)
-    (subst (λ f. Read (r.whole_lets ++ let_word ∷ name_token x ∷ []) lets (Some x) [] f after_name) (sym r.bare.1) next))
+    rw front
+    (rw r.bare.0
+    (rw r.bare.1 next))
 
 -- the `=` of a let
 pub read_equals : {ts : List Token} {lets : List (VarName × ExprTree)} {current : Option VarName} {below : List Frame} {top : Frame} →
@@ -243,9 +242,9 @@ read_equals {ts = ts} {lets = lets} {current = Some x} {below = below} {top = to
     beginning r.whole_lets (let_word ∷ name_token x ∷ equals ∷ []) at_unit r.lets_read (refl, r.let_read.1, r.let_read.2) refl tt in
     let front : ts ++ equals ∷ [] ≡ r.whole_lets ++ let_word ∷ name_token x ∷ equals ∷ [] =
     ap (λ t. t ++ equals ∷ []) (text ∙ ap (λ l. r.whole_lets ++ l) r.let_read.0) ∙ append_assoc r.whole_lets (let_word ∷ name_token x ∷ []) (equals ∷ []) in
-    subst (λ t. Read t lets (Some x) below top at_unit) (sym front)
-    (subst (λ b. Read (r.whole_lets ++ let_word ∷ name_token x ∷ equals ∷ []) lets (Some x) b top at_unit) (sym r.bare.0)
-    (subst (λ f. Read (r.whole_lets ++ let_word ∷ name_token x ∷ equals ∷ []) lets (Some x) [] f at_unit) (sym r.bare.1) next))
+    rw front
+    (rw r.bare.0
+    (rw r.bare.1 next))
 
 -- a query whose first expression may begin is one in which a unit is due
 pub body_begins : {ts : List Token} {lets : List (VarName × ExprTree)} {current : Option VarName} {below : List Frame} {top : Frame} →
@@ -259,7 +258,7 @@ body_begins {lets = lets} r = record {
   here = r.here;
   splits = r.splits;
   lets_read = r.lets_read;
-  let_read = subst (λ c. LetDone (names_of lets) c r.let_text) (sym r.let_read.1) r.let_read.0;
+  let_read = rw r.let_read.1 r.let_read.0;
   outside_read = r.outside_read;
   inside_read = r.inside_read;
   here_read = r.here_read;
@@ -292,7 +291,7 @@ after_nothing h x e = ap (λ y. y ++ x) e
 pub read_unit : {ts : List Token} {lets : List (VarName × ExprTree)} {current : Option VarName} {below : List Frame} {top : Frame} (t : Token) (e : ExprTree) →
     ((room : ℕ) → SpellsUnit (names_of lets) room (t ∷ []) e) → Read ts lets current below top at_unit → Read (ts ++ t ∷ []) lets current below top (unit e)
 read_unit {lets = lets} t e s r =
-    read_here t (unit e) r r.let_read (subst (λ x. SpellsUnit (names_of lets) r.room x e) (sym (after_nothing r.here (t ∷ []) r.here_read)) (s r.room)) tt
+    read_here t (unit e) r r.let_read (rw (after_nothing r.here (t ∷ []) r.here_read) (s r.room)) tt
 
 pub read_project : {ts : List Token} {lets : List (VarName × ExprTree)} {current : Option VarName} {below : List Frame} {top : Frame} →
     Read ts lets current below top at_unit → Read (ts ++ project_word ∷ []) lets current below top after_project
@@ -352,8 +351,8 @@ read_open {ts = ts} {lets = lets} {below = below} {top = top} names r l opener f
         r.inside,
         c,
         refl,
-        subst (λ k. Outside (names_of lets) k top.names below r.outside) is r.outside_read,
-        subst (λ k. FrameRead (names_of lets) k top.conjs top.left top.units r.inside) is r.inside_read,
+        rw (← is) r.outside_read,
+        rw (← is) r.inside_read,
         opener left,
       );
       inside_read = no_frame (names_of lets) left;
@@ -426,7 +425,7 @@ read_union {ts = ts} {lets = lets} {top = top} {e = e} r =
         front = f.front ++ ((f.back ++ r.here) ++ union_word ∷ []);
         back = [];
         splits = more_inside r.inside f.front f.back r.here union_word f.splits ∙ sym (append-nil (f.front ++ ((f.back ++ r.here) ++ union_word ∷ [])));
-        conjs_read = subst (λ x. ConjsBefore (names_of lets) r.room (top.conjs ++ less top.left x ∷ []) None (f.front ++ ((f.back ++ r.here) ++ union_word ∷ []))) (sym is)
+        conjs_read = rw is
             (conjs_more top.conjs top.left es f.front (f.back ++ r.here) f.conjs_read c);
         units_read = refl;
       };
@@ -442,7 +441,7 @@ read_union {ts = ts} {lets = lets} {top = top} {e = e} r =
     conjs_more [] (Some l) es b t (d, fs, is, x, same) s = (
       d ++ name_token minus_word ∷ t,
       ap (λ y. y ++ (t ++ union_word ∷ [])) is ∙ simp append_assoc,
-      subst (λ g. SpellsExpr (names_of lets) r.room (d ++ name_token minus_word ∷ t) (minus g (join_tree es) ∷ [])) (sym same) (less_conj x s),
+      rw same (less_conj x s),
     )
     conjs_more (c ∷ cs) (Some l) es b t none s = absurd none
 
@@ -495,7 +494,7 @@ read_close {ts = ts} {lets = lets} {top = top} {e = e} r =
       let_read = r.let_read;
       outside_read = o;
       inside_read = f;
-      here_read = subst (λ g. SpellsUnit (names_of lets) (suc r.room) here (keeping top.names g)) (sym same) (closed_read top.names c k x);
+      here_read = rw same (closed_read top.names c k x);
       bare = tt;
     }
 
@@ -515,9 +514,9 @@ read_semicolon {ts = ts} {lets = lets} {top = top} {e = e} x r =
     ∙ ap (λ y. r.whole_lets ++ let_word ∷ name_token x ∷ equals ∷ (y ++ (r.inside ++ (r.here ++ semicolon ∷ [])))) r.outside_read.1
     ∙ ap (λ y. r.whole_lets ++ let_word ∷ name_token x ∷ equals ∷ y) (sym (append_assoc r.inside r.here (semicolon ∷ []))) in
     let next : Read (all ++ []) (lets ++ (x, union_tree ds) ∷ []) None [] (empty_frame None) at_start = beginning all [] at_start spelled (refl, refl) refl (refl, refl) in
-    subst (λ t. Read t (lets ++ (x, whole top e) ∷ []) None [] (empty_frame None) at_start) (sym text)
-    (subst (λ g. Read all (lets ++ (x, g) ∷ []) None [] (empty_frame None) at_start) (sym same)
-    (subst (λ t. Read t (lets ++ (x, union_tree ds) ∷ []) None [] (empty_frame None) at_start) (append-nil all) next))
+    rw text
+    (rw same
+    (rw (← append-nil all) next))
 
 -- the tokens of a whole query spell it
 pub read_whole : {ts : List Token} {lets : List (VarName × ExprTree)} {top : Frame} {e : ExprTree} → Read ts lets None [] top (unit e) →
@@ -530,7 +529,7 @@ read_whole {ts = ts} {lets = lets} {top = top} {e = e} r few =
       ds,
       r.splits ∙ ap (λ y. r.whole_lets ++ (y ++ (r.outside ++ u))) r.let_read ∙ ap (λ y. r.whole_lets ++ (y ++ u)) r.outside_read.1,
       r.lets_read,
-      subst (λ k. SpellsExpr (names_of lets) k u ds) r.outside_read.2 s,
+      rw (← r.outside_read.2) s,
       same,
       few,
     )

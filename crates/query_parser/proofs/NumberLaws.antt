@@ -32,7 +32,7 @@ tells : (x q : VarName) → is_at (name_cmp x) q ≡ bytes_eq x q
 tells x q = by (bytes_eq x q) refl (name_cmp x q) refl
   where
     same : bytes_eq x q ≡ true → name_cmp x q ≡ Equal
-    same e = subst (λ y. name_cmp x y ≡ Equal) (eq_is x q e) (tied_itself nat_list_cmp_total x)
+    same e = rw (← eq_is x q e) (tied_itself nat_list_cmp_total x)
 
     by : (b : Bool) → bytes_eq x q ≡ b → (o : Ordering) → name_cmp x q ≡ o → is_at (name_cmp x) q ≡ bytes_eq x q
     by true e o f = ap is_eq (same e) ∙ sym e

@@ -47,7 +47,7 @@ tree_one q e d (inl (k, before, f)) (inl (j, earlier, g)) = by (nat_lt k j) refl
     by : (a : Bool) → nat_lt k j ≡ a → (b : Bool) → nat_lt j k ≡ b → e ≡ d
     by true h b i = absurd (let_none q.lets k e (earlier k (grind (arith, nat_tests))) f)
     by false h true i = absurd (let_none q.lets j d (before j (grind (arith, nat_tests))) g)
-    by false h false i = let same : j ≡ k = grind (arith, nat_tests) in let_one q.lets k e d f (subst (λ n. IsLetFault q.lets n d) same g)
+    by false h false i = let same : j ≡ k = grind (arith, nat_tests) in let_one q.lets k e d f (rw (← same) g)
 tree_one q e d (inl (k, before, f)) (inr (lets, g)) = absurd (let_none q.lets k e (lets k) f)
 tree_one q e d (inr (lets, f)) (inl (k, before, g)) = absurd (let_none q.lets k d (lets k) g)
 tree_one q e d (inr (lets, f)) (inr (others, g)) = expr_one (vars_of_lets q.lets (length q.lets)) (sure_of_lets q.lets (length q.lets)) q.body e d f g
@@ -56,9 +56,9 @@ pub no_query_with_fault : HasNoQueryWithFault
 no_query_with_fault text q e (few, spelled, sound) (too_long long) = absurd (omega arith)
 no_query_with_fault text q e (few, spelled, sound) (unreadable h f) = (no_query_with_read_fault text q spelled).0 e f
 no_query_with_fault text q e (few, spelled, sound) (too_many_kept h k) = (no_query_with_read_fault text q spelled).1 k
-no_query_with_fault text q e (few, spelled, sound) (too_many_captured {q = r} h s many) = many (subst (λ t. AtMost MOST_VARIABLES (NameOf t)) (one_query text q r spelled s) sound.few)
+no_query_with_fault text q e (few, spelled, sound) (too_many_captured {q = r} h s many) = many (rw (← one_query text q r spelled s) sound.few)
 no_query_with_fault text q e (few, spelled, sound) (not_sound {q = r} h s room f) =
-    sound_none q e sound (subst (λ t. IsTreeFault t e) (one_query text r q s spelled) f)
+    sound_none q e sound (rw (← one_query text r q s spelled) f)
 
 pub one_fault : HasOneFault
 one_fault text e d (too_long a) (too_long b) = refl
@@ -81,10 +81,10 @@ one_fault text e d (too_many_captured {q = q} h s m) (unreadable i g) = absurd (
 one_fault text e d (too_many_captured h s m) (too_many_kept i k) = refl
 one_fault text e d (too_many_captured h s m) (too_many_captured i t n) = refl
 one_fault text e d (too_many_captured {q = q} h s m) (not_sound {q = p} i t r g) =
-    absurd (m (subst (λ t. AtMost MOST_VARIABLES (NameOf t)) (one_query text p q t s) r))
+    absurd (m (rw (← one_query text p q t s) r))
 one_fault text e d (not_sound h s r f) (too_long b) = absurd (omega arith)
 one_fault text e d (not_sound {q = q} h s r f) (unreadable i g) = absurd ((no_query_with_read_fault text q s).0 d g)
 one_fault text e d (not_sound {q = q} h s r f) (too_many_kept i k) = absurd ((no_query_with_read_fault text q s).1 k)
 one_fault text e d (not_sound {q = q} h s r f) (too_many_captured {q = p} i t m) =
-    absurd (m (subst (λ t. AtMost MOST_VARIABLES (NameOf t)) (one_query text q p s t) r))
-one_fault text e d (not_sound {q = q} h s r f) (not_sound {q = p} i t u g) = tree_one q e d f (subst (λ z. IsTreeFault z d) (one_query text p q t s) g)
+    absurd (m (rw (← one_query text q p s t) r))
+one_fault text e d (not_sound {q = q} h s r f) (not_sound {q = p} i t u g) = tree_one q e d f (rw (← one_query text p q t s) g)

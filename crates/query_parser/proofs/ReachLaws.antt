@@ -64,7 +64,7 @@ name_in_turn = record { of_one = λ es e x. join_named es e x; one_of = λ es x.
 -- the names of the atoms of lets, one let after another
 pub let_name : (lets : List (VarName × ExprTree)) (l : VarName × ExprTree) (x : VarName) → Has lets l → NameIn l.1 x → NameInLets lets x
 let_name [] l x h n = absurd h
-let_name (m ∷ lets) l x (inl e) n = inl (subst (λ (w : VarName × ExprTree). NameIn w.1 x) (sym e) n)
+let_name (m ∷ lets) l x (inl e) n = inl (rw e n)
 let_name (m ∷ lets) l x (inr h) n = inr (let_name lets l x h n)
 
 name_let : (lets : List (VarName × ExprTree)) (x : VarName) → NameInLets lets x → (l : VarName × ExprTree) × Has lets l × NameIn l.1 x

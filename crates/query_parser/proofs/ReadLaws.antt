@@ -134,7 +134,7 @@ answer_err (TestVariable x) r h = h
 answer_err (MinusVariables x) r h = h
 
 answer_memory : (e : QueryFault) (r : Result QueryTree QueryFault) → e ≡ OutOfMemory → IsQueryAnswer (Err e) r
-answer_memory e r is = subst (λ d. IsQueryAnswer (Err d) r) (sym is) tt
+answer_memory e r is = rw is tt
 
 pub read_only : (text : List ℕ) (r : Result Query QueryFault) → IsRead text r → (q : QueryTree) → IsQueryText text q → IsQueryAnswer r (Ok q)
 read_only text (Ok p) h q is = ap (λ (t : QueryTree). Ok t) (one_query text q (query_of p) is.1 h.1)

@@ -31,14 +31,14 @@ word_run text p (c ∷ y) (rest, splits, word, last) =
     ap (take_while is_name_byte) splits ∙ run_is is_name_byte (c ∷ y) rest all last
 
 pub no_slash_starts : {c : ℕ} → c ≡ 47 → is_name_start c ≡ true → ⊥
-no_slash_starts e w = let start : is_name_start 47 ≡ true = subst (λ x. is_name_start x ≡ true) e w in absurd (cc)
+no_slash_starts e w = let start : is_name_start 47 ≡ true = rw e at w in absurd (cc)
 
 pub no_slash_sign : {c : ℕ} {t : Token} → c ≡ 47 → sign_token c ≡ Some t → ⊥
-no_slash_sign {t = t} e is = let sign : sign_token 47 ≡ Some t = subst (λ x. sign_token x ≡ Some t) e is in absurd (cc)
+no_slash_sign {t = t} e is = let sign : sign_token 47 ≡ Some t = rw e at is in absurd (cc)
 
 no_sign_starts : {a c : ℕ} {t : Token} → a ≡ c → sign_token c ≡ Some t → is_name_start a ≡ true → ⊥
 no_sign_starts {c = c} {t = t} e is w =
-    let starts : is_name_start c ≡ true = subst (λ x. is_name_start x ≡ true) e w in
+    let starts : is_name_start c ≡ true = rw (← e) w in
     let none = (sign_no_other c t (sign_is c t is)).2 in absurd (cc)
 
 pub one_token : {text : List ℕ} {p q r : ℕ} {t u : Token} → TokenAt text p t q → TokenAt text p u r → (t ≡ u) × (q ≡ r)
@@ -63,16 +63,16 @@ one_token {text = text} {p = p} (sign_at {c = c} {t = t} (s, at) is) (sign_at {c
 
 -- and no blank beside it
 pub no_blank_slash : {c : ℕ} → c ≡ 47 → is_blank c ≡ true → ⊥
-no_blank_slash e b = let blank : is_blank 47 ≡ true = subst (λ x. is_blank x ≡ true) e b in absurd (cc)
+no_blank_slash e b = let blank : is_blank 47 ≡ true = rw e at b in absurd (cc)
 
 pub blank_no_token : {text : List ℕ} {p q : ℕ} {t : Token} → BlankAt text p → TokenAt text p t q → ⊥
 blank_no_token {text = text} {p = p} (c, (s, at), b) (atom_at (r, there) found) = no_blank_slash (same_front text p at there) b
 blank_no_token {text = text} {p = p} (c, (s, at), b) (word_at x is same) =
     let (d, r, here, w) = word_front text p x is in
-    let blank : is_blank d ≡ true = subst (λ x. is_blank x ≡ true) (same_front text p at here) b in
+    let blank : is_blank d ≡ true = rw (same_front text p at here) at b in
     let none = (start_no_blank d w).0 in absurd (cc)
 blank_no_token {text = text} {p = p} (c, (s, at), b) (sign_at {c = d} {t = t} (r, there) is) =
-    let blank : is_blank d ≡ true = subst (λ x. is_blank x ≡ true) (same_front text p at there) b in
+    let blank : is_blank d ≡ true = rw (same_front text p at there) at b in
     let none = (sign_no_other d t (sign_is d t is)).0 in absurd (cc)
 
 -- where the text ends there is neither
@@ -87,17 +87,17 @@ end_no_token here (sign_at (r, there) is) = absurd (cc)
 -- nor where a byte stands that begins none
 pub stray_no_blank : (text : List ℕ) (p : ℕ) {c : ℕ} {s : List ℕ} → drop p text ≡ c ∷ s → IsStray c → BlankAt text p → ⊥
 stray_no_blank text p {c} at stray (d, (r, there), b) =
-    let blank : is_blank c ≡ true = subst (λ x. is_blank x ≡ true) (same_front text p there at) b in
+    let blank : is_blank c ≡ true = rw (← same_front text p there at) b in
     let none = stray.0 in absurd (cc)
 
 pub stray_no_token : {text : List ℕ} {p q c : ℕ} {s : List ℕ} {t : Token} → drop p text ≡ c ∷ s → IsStray c → TokenAt text p t q → ⊥
 stray_no_token {text = text} {p = p} at stray (atom_at (r, there) found) = stray.1 (same_front text p at there)
 stray_no_token {text = text} {p = p} {c = c} at stray (word_at x is same) =
     let (d, r, here, w) = word_front text p x is in
-    let starts : is_name_start c ≡ true = subst (λ x. is_name_start x ≡ true) (same_front text p here at) w in
+    let starts : is_name_start c ≡ true = rw (← same_front text p here at) w in
     let none = stray.2 in absurd (cc)
 stray_no_token {text = text} {p = p} {c = c} at stray (sign_at {c = d} {t = t} (r, there) is) =
-    let sign : sign_token c ≡ Some t = subst (λ x. sign_token x ≡ Some t) (same_front text p there at) is in
+    let sign : sign_token c ≡ Some t = rw (← same_front text p there at) is in
     let none = stray.3 in absurd (cc)
 
 -- ---- runs
@@ -129,4 +129,4 @@ module _ {S : Type 0} (step : ℕ → Token → S → Result S Refusal) (text : 
       let one = one_token at other in
       let both : ◌≡◌ {A = Result S Refusal} (Ok k) (Ok m) = sym moves ∙ ap (λ z. step p z s) one.0 ∙ same in
       let next : k ≡ m = cc in
-      meets run here (subst (λ z. Run step text z k g h) (sym one.1) (subst (λ z. Run step text r z g h) (sym next) more)) there
+      meets run here (rw one.1 (rw next more)) there

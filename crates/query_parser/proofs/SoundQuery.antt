@@ -37,7 +37,7 @@ built_sign is_comma ts h = h
 
 built_token : {text : List ℕ} {p q : ℕ} {t : Token} → TokenAt text p t q → IsText text → (ts : List Token) → AtomsBuilt ts → AtomsBuilt (t ∷ ts)
 built_token {text = text} {p = p} (atom_at {a = a} {q = q} at found) bytes ts h = (atom_built text p (a, q) found bytes, h)
-built_token (word_at x {t = t} at is) bytes ts h = subst (λ w. AtomsBuilt (w ∷ ts)) is (built_word _ _ _ _ _ x ts h)
+built_token (word_at x {t = t} at is) bytes ts h = rw (← is) (built_word _ _ _ _ _ x ts h)
 built_token (sign_at {c = c} {t = t} at is) bytes ts h = built_sign (sign_is c t is) ts h
 
 pub built_tokens : {text : List ℕ} {p : ℕ} {ts : List Token} → HasTokens text p ts → IsText text → AtomsBuilt ts
@@ -54,7 +54,7 @@ pub formed_query : (ts : List Token) (q : QueryTree) → AtomsBuilt ts → Spell
 formed_query ts q atoms (t, u, es, splits, s, e, body, small) =
     let built = built_split t u (subst AtomsBuilt splits atoms) in
     let whole = formed_whole e built.1 (omega (arith, small, ap minuses_in body)) in
-    (λ k l is. (formed_lets s built.0 (omega (arith, small)) k l is).0, subst (IsFormed (length q.lets)) (sym body) (subst (λ n. IsFormed n (union_tree es)) (names_len q.lets) whole.0))
+    (λ k l is. (formed_lets s built.0 (omega (arith, small)) k l is).0, subst (IsFormed (length q.lets)) (sym body) (rw (← names_len q.lets) whole.0))
 
 pub query_formed : (text : List ℕ) (ts : List Token) (q : QueryTree) → IsText text → HasTokens text 0 ts → Spells ts q → IsFormedQuery q
 query_formed text ts q bytes has spells = formed_query ts q (built_tokens has bytes) spells
@@ -66,10 +66,10 @@ passed_query ts q atoms (t, u, es, splits, s, e, body, small) passes few =
     let whole = formed_whole e built.1 (omega (arith, small, ap minuses_in body)) in
     let lets = formed_lets s built.0 (omega (arith, small)) in
     let n = length q.lets in
-    let formed : IsFormed n q.body = subst (IsFormed n) (sym body) (subst (λ m. IsFormed m (union_tree es)) (names_len q.lets) whole.0) in
+    let formed : IsFormed n q.body = subst (IsFormed n) (sym body) (rw (← names_len q.lets) whole.0) in
     record {
       sound_lets = λ k l is. let f = lets k l is in (sound_expr (vars_of_lets q.lets k) (sure_of_lets q.lets k) k l.1 f.0 (passes.0 k l is), f.1);
-      sound_body = (sound_expr (vars_of_lets q.lets n) (sure_of_lets q.lets n) n q.body formed passes.1, subst (λ b. expr_nesting b ≤ 600) (sym body) whole.1);
+      sound_body = (sound_expr (vars_of_lets q.lets n) (sure_of_lets q.lets n) n q.body formed passes.1, rw body whole.1);
       distinct = (reads_lets s (omega (arith, small))).1.0;
       free = λ x h. let (k, l, at, is) = names_place q.lets x h in subst IsFreeName is (lets k l at).2;
       few = few;

@@ -23,7 +23,7 @@ Runs n [] m = n ≡ m
 Runs n (t ∷ ts) m = (k : Nest) × (move t n ≡ Ok k) × Runs k ts m
 
 pub runs_on : (n k m : Nest) (ts us : List Token) → Runs n ts k → Runs k us m → Runs n (ts ++ us) m
-runs_on n k m [] us e r = subst (λ x. Runs x us m) (sym e) r
+runs_on n k m [] us e r = rw e r
 runs_on n k m (t ∷ ts) us (l, is, e) r = (l, is, runs_on l k m ts us e r)
 
 pub runs_to : (n k m : Nest) (ts : List Token) → Runs n ts k → k ≡ m → Runs n ts m
@@ -104,7 +104,7 @@ reads_names (one_name {x = x} free) a m top cs left us few =
 reads_names (more_names {t = t} {x = x} {xs = xs} s free) a m top cs left us few =
     let keep = with_names [] xs in
     let more = with_names_more [] xs x in
-    let fits : length (with_name x keep) ≤ MOST_VARIABLES = subst (λ (names : List VarName). length names ≤ MOST_VARIABLES) more few in
+    let fits : length (with_name x keep) ≤ MOST_VARIABLES = rw (← more) few in
     let fewer : length keep ≤ MOST_VARIABLES = omega (arith, with_name_longer x keep, fits) in
     let at = inside a m top cs left us in
     runs_to (at after_project) (at (after_kept (with_name x keep))) (at (after_kept (with_names [] (xs ++ x ∷ [])))) (t ++ comma ∷ name_token x ∷ [])
@@ -260,7 +260,7 @@ mutual
         (
           start,
           project_moves w,
-          subst (λ ts. Runs start ts end) (append_assoc t (open_paren ∷ []) (u ++ close_paren ∷ []))
+          rw (← append_assoc t (open_paren ∷ []) (u ++ close_paren ∷ []))
               (runs_on start (inside b m (Some ks) [] None [] at_unit) end (t ++ open_paren ∷ []) (u ++ close_paren ∷ [])
               (reads_keep p a m keep cs left us (omega (arith, deep))) run),
         ),
@@ -298,7 +298,7 @@ good_more names x good name new = (distinct_more names x good.0 new, λ y h. by 
   where
     by : (y : VarName) → Has names y ⊎ (x ≡ y) → is_name y ≡ true
     by y (inl h) = good.1 y h
-    by y (inr e) = subst (λ z. is_name z ≡ true) e name
+    by y (inr e) = rw (← e) name
 
 pub reads_lets : {t : List Token} {lets : List (VarName × ExprTree)} → SpellsLets t lets → minuses_in_lets lets ≤ MOST_MINUSES →
     Runs outermost t (between lets (minuses_in_lets lets)) × AreGood (names_of lets)
@@ -331,6 +331,6 @@ reads_query ts q (t, u, es, splits, s, e, body, few) =
     let n = inside a k None cs left us (unit f) in
     let query : ExprTree → QueryTree = λ b. record { lets = q.lets; body = b } in (
       n,
-      subst (λ x. Runs outermost x n) (sym splits) (runs_on outermost (between q.lets m) n t u run run'),
+      rw splits (runs_on outermost (between q.lets m) n t u run run'),
       ap (λ b. Some (query b, false)) (whole_is None cs left us es f is ∙ sym body),
     )

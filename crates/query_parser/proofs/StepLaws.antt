@@ -87,7 +87,7 @@ sign_is c t is = by (c == 61) refl (c == 59) refl (c == 40) refl (c == 41) refl 
     this k s e d here_is =
         let here : k ≡ c = grind (arith, nat_tests) in
         let same : s ≡ t = cc in
-        subst (λ z. IsSign z t) here (subst (IsSign k) same here_is)
+        rw (← here) (subst (IsSign k) same here_is)
 
     by : (a : Bool) → (c == 61) ≡ a → (b : Bool) → (c == 59) ≡ b → (d : Bool) → (c == 40) ≡ d → (e : Bool) → (c == 41) ≡ e → (f : Bool) → (c == 44) ≡ f →
         sign_by (c == 61) (c == 59) (c == 40) (c == 41) (c == 44) ≡ Some t → IsSign c t
@@ -183,7 +183,7 @@ went_same : (text : List ℕ) (at : ℕ) (n m k : Nest) (len l : ℕ) → goes l
 went_same text at n m k len l e w =
     let same_len : len ≡ l = cc in
     let same : m ≡ k = cc in
-    subst (λ z. Went text at n z k) same_len (subst (Went text at n len) same w)
+    rw (← same_len) (subst (Went text at n len) same w)
 
 moved_is : (text : List ℕ) (at len l : ℕ) (t : Token) (n k : Nest) (found : Move) → move t n ≡ found → TokenAt text at t (at + len) →
     moved at len found ≡ goes l k → Went text at n l k

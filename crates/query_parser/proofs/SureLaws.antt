@@ -62,7 +62,7 @@ module _ (V S : ℕ → VarName → Type 0) (among : (k : ℕ) (x : VarName) →
 module _ (S : ℕ → VarName → Type 0) where
   pub join_part_sure : (es : List ExprTree) (e : ExprTree) (x : VarName) → Has es e → SureOf S e x → SureOf S (join_all es) x
   join_part_sure [] e x h s = absurd h
-  join_part_sure (g ∷ es) e x (inl is) s = inl (subst (λ (w : ExprTree). SureOf S w x) (sym is) s)
+  join_part_sure (g ∷ es) e x (inl is) s = inl (rw is s)
   join_part_sure (g ∷ es) e x (inr h) s = inr (join_part_sure es e x h s)
 
   pub join_sure_part : (es : List ExprTree) (x : VarName) → SureOf S (join_all es) x → (e : ExprTree) × Has es e × SureOf S e x

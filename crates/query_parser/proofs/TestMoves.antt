@@ -45,12 +45,12 @@ module _ {S : Type 0} (step : ℕ → Token → S → Result S Refusal) where
   Leads s (x ∷ ts) f = (k : S) × (step x.0 x.1 s ≡ Ok k) × Leads k ts f
 
   pub leads_on : (s k f : S) (ts us : List Placed) → Leads s ts k → Leads k us f → Leads s (ts ++ us) f
-  leads_on s k f [] us e r = subst (λ x. Leads x us f) (sym e) r
+  leads_on s k f [] us e r = rw e r
   leads_on s k f (x ∷ ts) us (l, is, e) r = (l, is, leads_on l k f ts us e r)
 
   none_run : {text : List ℕ} {p : ℕ} {ps : List Placed} → HasPlaced text p ps → (rest : List Placed) (s f : S) → ps ≡ rest → s ≡ f →
       (e : ℕ) × Run step text p s e f × HasPlaced text e rest
-  none_run {text = text} {p = p} has rest s f same is = (p, subst (λ g. Run step text p s p g) is run_ends, subst (HasPlaced text p) same has)
+  none_run {text = text} {p = p} has rest s f same is = (p, rw (← is) run_ends, subst (HasPlaced text p) same has)
 
   -- of a text that has them
   pub placed_run : {text : List ℕ} {p : ℕ} {ps : List Placed} → HasPlaced text p ps → (ts rest : List Placed) (s f : S) → ps ≡ ts ++ rest → Leads s ts f →
@@ -64,7 +64,7 @@ module _ {S : Type 0} (step : ℕ → Token → S → Result S Refusal) where
       let first : (p, u) ≡ t = cc in
       let others : us ≡ ts ++ rest = cc in
       let (e, run, more) = placed_run has ts rest k f others lead in
-      (e, run_token at (subst (λ (x : Placed). step x.0 x.1 s ≡ Ok k) (sym first) is) run, more)
+      (e, run_token at (rw (← first) at is) run, more)
 
   pub run_placed : {text : List ℕ} {p e : ℕ} {s f : S} {rest : List Placed} → Run step text p s e f → HasPlaced text e rest →
       (ts : List Placed) × HasPlaced text p (ts ++ rest) × Leads s ts f
@@ -129,9 +129,9 @@ Holds ts s = AreSpelled s.asked s.last ts
 
 -- a test that ends here
 end_test : (asked : List Asked) (d us : List Placed) (a : Asked) → BeforeTest asked d → SpellsTest us a → SpellsTests (d ++ us) (asked ++ a ∷ [])
-end_test [] d us a none s = subst (λ x. SpellsTests (x ++ us) (a ∷ [])) (sym none) (first_test s)
+end_test [] d us a none s = rw none (first_test s)
 end_test (b ∷ asked) d us a (e, p, is, before) s =
-    subst (λ x. SpellsTests x ((b ∷ asked) ++ a ∷ [])) (sym (append_assoc e ((p, comma) ∷ []) us) ∙ ap (λ x. x ++ us) (sym is)) (more_tests p before s)
+    rw (← (sym (append_assoc e ((p, comma) ∷ []) us) ∙ ap (λ x. x ++ us) (sym is))) (more_tests p before s)
 
 pub not_none : {ts : List Placed} {asked : List Asked} → SpellsTests ts asked → asked ≡ [] → ⊥
 not_none (first_test s) e = absurd (cc)
@@ -163,17 +163,16 @@ token_spells at close_paren ts (after_test_var a) asked k p e (d, o, v, same, be
     let is : tests_at (asked ++ a ∷ []) after_test ≡ k = cc in
     let whole = (a.at, name_token a.test) ∷ (o, open_paren) ∷ (v, name_token a.var) ∷ (at, close_paren) ∷ [] in
     subst (Holds (ts ++ (at, close_paren) ∷ [])) is
-    (subst (λ x. SpellsTests x (asked ++ a ∷ []))
-    (sym (one_more d ((a.at, name_token a.test) ∷ (o, open_paren) ∷ (v, name_token a.var) ∷ []) (at, close_paren) same)) (end_test asked d whole a before (one_test free also)))
+    (rw (one_more d ((a.at, name_token a.test) ∷ (o, open_paren) ∷ (v, name_token a.var) ∷ []) (at, close_paren) same) (end_test asked d whole a before (one_test free also)))
 token_spells at comma ts after_test asked k p e r =
     let is : tests_at asked at_test ≡ k = cc in
     subst (Holds (ts ++ (at, comma) ∷ [])) is (parted asked ts at r)
 token_spells at t ts last asked k p e r = absurd (cc)
 
 tokens_spell : (us ts : List Placed) (s k : TestsRead) → AreProper (tokens_of ts) → Leads test_move s ts k → Holds us s → Holds (us ++ ts) k
-tokens_spell us [] s k p e r = subst (λ x. Holds x k) (sym (append-nil us)) (subst (Holds us) e r)
+tokens_spell us [] s k p e r = rw (append-nil us) (subst (Holds us) e r)
 tokens_spell us (t ∷ ts) s k p (l, is, lead) r =
-    subst (λ x. Holds x k) (append_assoc us (t ∷ []) ts) (tokens_spell (us ++ t ∷ []) ts l k p.1 lead (token_spells t.0 t.1 us s.last s.asked l p.0 is r))
+    rw (← append_assoc us (t ∷ []) ts) (tokens_spell (us ++ t ∷ []) ts l k p.1 lead (token_spells t.0 t.1 us s.last s.asked l p.0 is r))
 
 pub tests_spelled : (ts : List Placed) (asked : List Asked) → AreProper (tokens_of ts) → Leads test_move no_test_read ts (tests_at asked after_test) → SpellsTests ts asked
 tests_spelled ts asked p lead = tokens_spell [] ts no_test_read (tests_at asked after_test) p lead refl

@@ -62,7 +62,7 @@ pub where_here : (text : List ℕ) (at : ℕ) → code.word_at (drop at text) �
 where_here text at is = by (drop at text) refl is
   where
     starts : (c : ℕ) (s : List ℕ) (b : Bool) → cond b (c ∷ take_while is_name_byte s) [] ≡ where_word → is_name_start c ≡ true
-    starts c s true e = let first : c ≡ 119 = cc in subst (λ x. is_name_start x ≡ true) (sym first) refl
+    starts c s true e = let first : c ≡ 119 = cc in rw first refl
     starts c s false e = absurd (cc)
 
     by : (rest : List ℕ) → drop at text ≡ rest → code.word_at rest ≡ where_word → TokenAt text at (name_token where_word) (at + 5)
@@ -153,7 +153,7 @@ ended l w = absurd (cc)
 
 pub tests_whole : (text : List ℕ) (from at : ℕ) (s : TestsRead) (b : Bool) → Run test_move text from no_test_read at s → drop at text ≡ [] → b ≡ ends_tests (test_mark s.last) → b ≡ true →
     HasTestsFrom text from s.asked
-tests_whole text from at s b run here tells is = (at, subst (λ l. Run test_move text from no_test_read at (tests_at s.asked l)) (ended s.last (sym tells ∙ is)) run, here)
+tests_whole text from at s b run here tells is = (at, rw (← ended s.last (sym tells ∙ is)) run, here)
 
 pub tests_cut : (text : List ℕ) (from at : ℕ) (s : TestsRead) (b : Bool) → Run test_move text from no_test_read at s → drop at text ≡ [] → b ≡ ends_tests (test_mark s.last) → b ≡ false →
     StopsFrom text from (Unexpected at)
@@ -233,14 +233,14 @@ AreAmong vars asked = (a : Asked) → Has asked a → Has vars a.var
 
 first_at : (vars : List VarName) (asked : List Asked) (k : ℕ) (a : Asked) → slice_get asked k ≡ Some a → AreAmong vars (take k asked) → (Has vars a.var → ⊥) → FirstMissing (Has vars) asked a.var
 first_at vars [] k a at before none = absurd (cc)
-first_at vars (b ∷ asked) zero a at before none = let same : b ≡ a = cc in inl ((λ h. none (subst (λ (z : Asked). Has vars z.var) same h)), ap (λ (z : Asked). z.var) same)
+first_at vars (b ∷ asked) zero a at before none = let same : b ≡ a = cc in inl ((λ h. none (rw (← same) h)), ap (λ (z : Asked). z.var) same)
 first_at vars (b ∷ asked) (suc k) a at before none = inr (before b (inl refl), first_at vars asked k a at (λ z h. before z (inr h)) none)
 
 among_next : (vars : List VarName) (asked : List Asked) (k : ℕ) (a : Asked) → slice_get asked k ≡ Some a → AreAmong vars (take k asked) → Has vars a.var → AreAmong vars (take (k + 1) asked)
 among_next vars asked k a at before here z h =
-    elim (Has-append_cases (take k asked) (a ∷ []) z (subst (λ (us : List Asked). Has us z) (take_at_more asked k a at) h)) as (λ _. Has vars z.var) [
+    elim (Has-append_cases (take k asked) (a ∷ []) z (rw (← take_at_more asked k a at) h)) as (λ _. Has vars z.var) [
       | inl old ↦ before z old
-      | inr last ↦ elim last as (λ _. Has vars z.var) [ inl same ↦ subst (λ (y : Asked). Has vars y.var) same here | inr none ↦ absurd none ]
+      | inr last ↦ elim last as (λ _. Has vars z.var) [ inl same ↦ rw (← same) here | inr none ↦ absurd none ]
     ]
 
 -- as the code tells it

@@ -41,7 +41,7 @@ begin_one {text = text} {p = p} {o = o} {after = after} {later = later} {n = n} 
     let one = meets query_step text x.reads (where_halts n (found_whole n (q, a) x.whole) x.word) y.reads (where_halts m (found_whole m (r, b) y.whole) y.word) in
     let both : ◌≡◌ {A = Option Body} (Some (q, a)) (Some (r, b)) = sym x.whole ∙ ap whole_query one.1 ∙ y.whole in
     let body : ◌≡◌ {A = Body} (q, a) (r, b) = cc in
-    (body, (one_token (subst (λ z. TokenAt text z (name_token where_word) after) one.0 x.word) y.word).1)
+    (body, (one_token (rw one.0 at x.word) y.word).1)
 
 tests_one : {text : List ℕ} {p : ℕ} {asked others : List Asked} → HasTestsFrom text p asked → HasTestsFrom text p others → asked ≡ others
 tests_one {text = text} {asked = asked} {others = others} (e, run, here) (g, more, there) =
@@ -61,7 +61,7 @@ one_reading {text = text} {q = q} {r = r} {a = a} {b = b} (without_where x) (wit
 one_reading (without_where x) (with_where y tests) = absurd (begin_no_end y x)
 one_reading (with_where x tests) (without_where y) = absurd (begin_no_end x y)
 one_reading {text = text} {asked = asked} (with_where x tests) (with_where y others) =
-    let one = begin_one x y in (one.0, tests_one (subst (λ z. HasTestsFrom text z asked) one.1 tests) others)
+    let one = begin_one x y in (one.0, tests_one (rw (← one.1) tests) others)
 
 -- ---- faults that are met when the text is read
 
@@ -89,8 +89,8 @@ read_no_fault {text = text} {q = q} {many = many} {e = e} read fault = by read (
     by (with_where b (end, run, here)) (inr (p, s, begun, stop)) =
         let (o, n, c, after, begin, more) = begun_begins begun in
         let place = (begin_one begin b).1 in
-        let one = meets test_move text (subst (λ z. Run test_move text z no_test_read p s) place more) (stop_halts stop) run (end_halts test_move text end _ here) in
-        not_end stop (subst (λ z. drop z text ≡ []) (sym one.0) here) (ap (λ (t : TestsRead). t.last) one.1)
+        let one = meets test_move text (rw (← place) more) (stop_halts stop) run (end_halts test_move text end _ here) in
+        not_end stop (rw one.0 here) (ap (λ (t : TestsRead). t.last) one.1)
 
 pub one_reading_fault : {text : List ℕ} {e d : QueryFault} → IsTestedReadFault text e → IsTestedReadFault text d → e ≡ d
 one_reading_fault {text = text} {e = e} {d = d} x y = by (fault_stops x) (fault_stops y)
@@ -106,8 +106,8 @@ one_reading_fault {text = text} {e = e} {d = d} x y = by (fault_stops x) (fault_
         let (o, n, b, after, begin, run) = begun_begins begun in
         let (i, m, c, later, begin', more) = begun_begins other in
         let place = (begin_one begin begin').1 in
-        let one = meets test_move text (subst (λ z. Run test_move text z no_test_read p s) place run) (stop_halts stop) more (stop_halts halt) in
-        one_stop (subst (λ z. TestsStop text z k e) one.0 (subst (λ z. TestsStop text p z e) one.1 stop)) halt
+        let one = meets test_move text (rw (← place) run) (stop_halts stop) more (stop_halts halt) in
+        one_stop (rw (← one.0) (rw (← one.1) stop)) halt
 
 -- ---- what is kept
 
@@ -122,9 +122,9 @@ kept_read {text = text} {r = r} (with_tests {p = p} {q = q} {e = e} {m = m} b d 
     let (s, begun, same) = reads_begun d in
     let (o, k, c, after, other, run) = begun_begins begun in
     let place = (begin_one other begin).1 in
-    let run' = subst (λ z. Run test_move text z no_test_read e s) place run in
+    let run' = rw place at run in
     let last = ended s.last (ap ends_tests same ∙ w) in
-    (body.0, s.asked, with_where begin (e, subst (λ l. Run test_move text q no_test_read e (tests_at s.asked l)) last run', here))
+    (body.0, s.asked, with_where begin (e, rw (← last) run', here))
   where
     ended : (l : TestLast) → ends_tests (test_mark l) ≡ true → l ≡ after_test
     ended after_test w = refl

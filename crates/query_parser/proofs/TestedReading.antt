@@ -140,7 +140,7 @@ no_tests_here {text = text} {at = at} {n = n} run halts none p q r begins =
     let (m, is, other) = read_run begins.reads in
     let whole : is_whole (reading_of m) ≡ true = ap is_whole is ∙ begins.whole in
     let one = meets query_step text other (where_halts m whole begins.word) run halts in
-    none (ap (λ k. is_whole (reading_of k)) (sym one.1) ∙ whole) q (subst (λ z. TokenAt text z (name_token where_word) q) one.0 begins.word)
+    none (ap (λ k. is_whole (reading_of k)) (sym one.1) ∙ whole) q (rw one.0 at begins.word)
 
 pub whole_found : (n : Nest) → is_whole (reading_of n) ≡ true → (b : Body) × (whole_query n ≡ Some b)
 whole_found n w = by (whole_query n) refl (whole_of n (reading_of n) refl ∙ w)
@@ -184,7 +184,7 @@ spelled_read {text = text} {t = t} s = by s.tests t.asked s.spells_tests s.place
 
     by : (tests : List Placed) (asked : List Asked) → SpellsWhere tests asked → HasPlaced text 0 (s.query ++ tests) → IsReadAs text t.query false asked
     by tests asked no_test has =
-        without_where (spelled_ends text t.query (tokens_of s.query, subst (λ ts. HasTokens text 0 (tokens_of ts)) (append-nil s.query) (placed_tokens has), s.spells_query))
+        without_where (spelled_ends text t.query (tokens_of s.query, rw (← append-nil s.query) (placed_tokens has), s.spells_query))
     by tests asked (tests_follow {p = p} {ts = ts} follow) has =
         let (m, leads, whole) = run in
         let (e, query, rest) = placed_run query_step has s.query ((p, name_token where_word) ∷ ts) outermost m refl (leads_query s.query outermost m leads) in

@@ -110,7 +110,7 @@ kept_opens : {ts : List Token} {lets : List (VarName × ExprTree)} {current : Op
 kept_opens {lets = lets} {current = current} {below = below} {top = top} keep many count m e r =
     let o = open_moves (Some keep) (nest lets current below top (after_kept keep) many count) m e in
     let (d, is, (xs, s, same, few)) = r.here_read in
-    let spelled : SpellsKeep d keep = subst (SpellsKeep d) same (keeps_names s (subst (λ (names : List VarName). length names ≤ MOST_VARIABLES) (sym same) few)) in
+    let spelled : SpellsKeep d keep = subst (SpellsKeep d) same (keeps_names s (rw same few)) in
     done (opened (Some keep) (nest lets current below top (after_kept keep) many count)) m o.1
     (read_open (Some keep) r r.let_read (λ room. (d, ap (λ h. h ++ open_paren ∷ []) is, spelled)) o.0)
 
@@ -156,7 +156,7 @@ reads_token (name_token x) ts lets current below top after_project many count m 
     done (nest lets current below top (after_kept (with_name x [])) many count) m is (read_kept x (name, p) room r)
 reads_token (name_token x) ts lets current below top (unit g) many count m p e f r =
     let (same, few, is) = minus_moves x g (nest lets current below top (unit g) many count) m e in
-    done _ m is (subst (λ y. Read (ts ++ name_token y ∷ []) lets current below (record top { conjs = []; left = Some (whole top g); units = [] }) at_unit) (sym same) (read_minus r))
+    done _ m is (rw same (read_minus r))
 reads_token (name_token x) ts lets current below top (after_comma names) many count m p e f r =
     let (name, room, is) = keep_moves names x (nest lets current below top (after_comma names) many count) m e f in
     done (nest lets current below top (after_kept (with_name x names)) many count) m is (read_kept_more x (name, p) room r)
@@ -233,9 +233,9 @@ few_before ts n m run few = by n.many refl
     by true e = let d = runs_many ts n m run e in absurd (cc)
 
 pub reads_tokens : (us ts : List Token) (n m : Nest) → AreProper ts → Runs n ts m → m.many ≡ false → IsRead us n → IsRead (us ++ ts) m
-reads_tokens us [] n m p e few r = subst (λ x. IsRead x m) (sym (append-nil us)) (subst (IsRead us) e r)
+reads_tokens us [] n m p e few r = rw (append-nil us) (subst (IsRead us) e r)
 reads_tokens us (t ∷ ts) n m p (k, is, run) few r =
-    subst (λ x. IsRead x m) (append_assoc us (t ∷ []) ts)
+    rw (← append_assoc us (t ∷ []) ts)
     (reads_tokens (us ++ t ∷ []) ts k m p.1 run few (reads_token t us n.lets n.current n.below n.top n.last n.many n.minuses k p.0 is (few_before ts k m run few) r))
 
 pub whole_many : (lets : List (VarName × ExprTree)) (many : Bool) (top : Frame) (below : List Frame) (current : Option VarName) (last : Last) (b : Body) →
@@ -332,7 +332,7 @@ whole_spelled : (ts : List Token) (lets : List (VarName × ExprTree)) (many : Bo
     ends_body lets many top below current last ≡ Some b → Counted lets below top last count → Read ts lets current below top last → Spells ts b.0
 whole_spelled ts lets many top [] None (unit e) count b is c r =
     let same : (record { lets = lets; body = whole top e }, many) ≡ b = cc in
-    subst (λ (c : Body). Spells ts c.0) same (read_whole r (omega (arith, c.0, c.1, whole_count top e)))
+    rw (← same) (read_whole r (omega (arith, c.0, c.1, whole_count top e)))
 whole_spelled ts lets many top below current last count b is c r = absurd (cc)
 
 -- what is read of the tokens of a whole query they spell

@@ -34,7 +34,7 @@ held (inr m) n = absurd (n m)
 -- ---- the least name of a list
 
 least_alone : (P : VarName → Type 0) (y : VarName) → Told (P y) → (o : Option VarName) × IsLeastOf (λ z. (y ≡ z) × P z) o
-least_alone P y (inl p) = (Some y, ((refl, p), λ z h less. not_below_itself y (subst (λ (w : VarName). name_cmp w y ≡ Less) (sym h.0) less)))
+least_alone P y (inl p) = (Some y, ((refl, p), λ z h less. not_below_itself y (rw (← h.0) at less)))
 least_alone P y (inr n) = (None, λ x h. n (subst P (sym h.0) h.1))
 
 spread : (P : VarName → Type 0) (y : VarName) (names : List VarName) (z : VarName) → (((y ≡ z) × P z) ⊎ (Has names z × P z)) ↔ (Has (y ∷ names) z × P z)

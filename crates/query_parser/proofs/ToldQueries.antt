@@ -73,7 +73,7 @@ module _ (V S : ℕ → VarName → Type 0) (told : (k : ℕ) (x : VarName) → 
       by (inl h) others = inl (g, inl refl, h.0, h.1, h.2)
       by (inr apart) (inl c) = inl (c.0, inr c.1, c.2, c.3, c.4)
       by (inr apart) (inr none) = inr (λ c. elim c.1 [
-        | inl is ↦ (let at : VarOf V g x × ¬ (SureOf S g x × SureOf S e x) = subst (λ (w : ExprTree). VarOf V w x × ¬ (SureOf S w x × SureOf S e x)) (sym is) (c.2, c.4) in apart (at.0, c.3, at.1))
+        | inl is ↦ (let at : VarOf V g x × ¬ (SureOf S g x × SureOf S e x) = rw is (c.2, c.4) in apart (at.0, c.3, at.1))
         | inr has ↦ none (c.0, has, c.2, c.3, c.4)
       ])
 
@@ -223,7 +223,7 @@ var_from V (minus e g) x h = var_from V e x h
 
 let_listed : (lets : Lets) (l : VarName × ExprTree) (x : VarName) → Has lets l → Has (expr_vars [] l.1) x → Has (lets_vars lets) x
 let_listed [] l x h m = absurd h
-let_listed (k ∷ lets) l x (inl e) m = Has-append_left (expr_vars [] k.1) (lets_vars lets) x (subst (λ (w : VarName × ExprTree). Has (expr_vars [] w.1) x) (sym e) m)
+let_listed (k ∷ lets) l x (inl e) m = Has-append_left (expr_vars [] k.1) (lets_vars lets) x (rw e m)
 let_listed (k ∷ lets) l x (inr h) m = Has-append_right (expr_vars [] k.1) (lets_vars lets) x (let_listed lets l x h m)
 
 lets_listed : (lets : Lets) (n k : ℕ) (x : VarName) → vars_of_lets lets n k x → Has (lets_vars lets) x
@@ -273,8 +273,8 @@ lets_or_fault lets formed (suc fuel) k past before = by (slice_get lets k) refl 
     by (Some l) at later = checked (expr_passes_or_fault lets k l.1 (formed k l at))
       where
         checked : UnderLetsOrFault lets k l.1 → LetsOrFault lets
-        checked (inl ok) = later (more (λ m is. let same : l ≡ m = cc in subst (λ (w : VarName × ExprTree). PassesUnder lets k w.1) same ok))
-        checked (inr h) = inr (k, before, (h.0, subst (λ o. IsSomeAnd o (λ m. IsFaultUnder lets k m.1 h.0)) (sym at) h.1))
+        checked (inl ok) = later (more (λ m is. let same : l ≡ m = cc in rw (← same) ok))
+        checked (inr h) = inr (k, before, (h.0, rw at h.1))
 
 pub query_passes_or_fault : (q : QueryTree) → IsFormedQuery q → QueryPassesOrFault q
 query_passes_or_fault q c = by (lets_or_fault q.lets c.0 (length q.lets) 0 (omega arith) (λ j few. absurd (omega (arith, few))))

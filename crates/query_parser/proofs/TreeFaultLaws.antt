@@ -30,7 +30,7 @@ module _ (V S : ℕ → VarName → Type 0) where
   none_clashes before (join e rest) share p x (inr h) = none_clashes (e ∷ before) rest next p.1 x h.1
     where
       next : (g : ExprTree) → Has (e ∷ before) g → SharesSure V S g rest
-      next g (inl is) = subst (λ (w : ExprTree). SharesSure V S w rest) is p.2
+      next g (inl is) = rw (← is) p.2
       next g (inr has) = (share g has).1
   none_clashes before (atom a) share p x h = h
   none_clashes before (named k) share p x h = h
@@ -58,7 +58,7 @@ module _ (V S : ℕ → VarName → Type 0) where
   own_none (join e rest) (JoinUnsure x) p o = none_clashes (e ∷ []) rest first p.1 x o
     where
       first : (g : ExprTree) → Has (e ∷ []) g → SharesSure V S g rest
-      first g (inl is) = subst (λ (w : ExprTree). SharesSure V S w rest) is p.2
+      first g (inl is) = rw (← is) p.2
       first g (inr n) = absurd n
   own_none (project names e) (UnknownVariable x) p o = o.0.1 (p.1 x o.0.0)
   own_none (minus e g) (MinusVariables x) p o = elim o.0 [ inl h ↦ h.1 ((p.2 x).0 h.0) | inr h ↦ h.1 ((p.2 x).1 h.0) ]

@@ -25,7 +25,7 @@ check_expr-check_union-requires t c =
     let e = ap expr_of c.in-Union.is ∙ expr_of-Union c.in-Union.parts in
     let f = union_formed n es (subst (IsFormed n) e c.requires.formed) in (
       omega (arith, ap expr_nodes e, union_size es),
-      (f.1, (f.0, (c.requires.ascending, ((λ x n. c.requires.named x (subst (λ g. NameIn g x) (sym e) (names_united es x n))), c.requires.among)))),
+      (f.1, (f.0, (c.requires.ascending, ((λ x n. c.requires.named x (rw e (names_united es x n))), c.requires.among)))),
     )
 
 pub check_expr-check_join-requires : goal.check_expr-check_join-requires
@@ -34,7 +34,7 @@ check_expr-check_join-requires t c =
     let n = length c.args.known.now in
     let e = ap expr_of c.in-Join.is ∙ expr_of-Join c.in-Join.parts in (
       omega (arith, ap expr_nodes e),
-      (join_formed n es (subst (IsFormed n) e c.requires.formed), (c.requires.ascending, ((λ x n. c.requires.named x (subst (λ g. NameIn g x) (sym e) n)), c.requires.among))),
+      (join_formed n es (subst (IsFormed n) e c.requires.formed), (c.requires.ascending, ((λ x n. c.requires.named x (rw e n)), c.requires.among))),
     )
 
 pub check_expr-returns-in-Named : goal.check_expr-returns-in-Named
@@ -49,7 +49,7 @@ check_expr-returns-in-Named t c =
     let is = ap expr_of c.in-Named.is ∙ expr_of-Named k in
     let within : k < length known = subst (IsFormed (length known)) is c.requires.formed in
     let at = slice_get-map (bound_in names) known k ∙ ap (option_map (bound_in names)) (slice_get-get_or known k none within) in
-    subst (λ (g : ExprTree). Passes V S g × IsBoundOf V S g (bound_in names b)) (sym is) (tt, named_bound (bounds_in names known) k (bound_in names b) at)
+    rw is (tt, named_bound (bounds_in names known) k (bound_in names b) at)
 
 pub check_join-check_expr-requires : goal.check_join-check_expr-requires
 check_join-check_expr-requires t c =
@@ -181,5 +181,5 @@ check_expr-returns-in_ok-other-in-Minus t c =
     let right = c.in_ok-other-in-Minus.ensures in
     let is : expr_of c.args.expr.now ≡ minus e g =
     ap expr_of c.in-Minus.is ∙ (expr_of-Minus c.in-Minus.left c.in-Minus.right ∙ (λ i. minus (expr_of (sym c.deref-in-Minus.ensures i)) (expr_of (sym c.deref-in-Minus-2.ensures i)))) in
-    subst (λ (h : ExprTree). Checked V S names h c.differing.result) (sym is)
+    rw is
     (minus_done V S names e g c.in_ok-bound-in-Minus.bound c.in_ok-other-in-Minus.other c.differing.result left.0 left.1 right.0 right.1 c.differing.ensures)

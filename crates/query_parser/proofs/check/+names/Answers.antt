@@ -29,7 +29,7 @@ gather_names-returns-in-Union t c =
     let es = exprs_of c.in-Union.parts in
     let e = ap expr_of c.in-Union.is ∙ expr_of-Union c.in-Union.parts in
     gathered_same c.args.into.now c.gather_parts.new.into (NameIn (join_all es)) (NameIn (expr_of c.args.expr.now)) c.gather_parts.result
-    (λ x. subst (λ g. NameIn (join_all es) x ↔ NameIn g x) (sym e) (name_of_union es x)) c.gather_parts.ensures
+    (λ x. rw e (name_of_union es x)) c.gather_parts.ensures
 
 pub gather_parts-gather_names-requires : goal.gather_parts-gather_names-requires
 gather_parts-gather_names-requires t c =

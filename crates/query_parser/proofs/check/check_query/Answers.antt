@@ -16,7 +16,7 @@ use Rattle.query_parser.proofs.check.check_query.Goals as goal
 pub check_expr-requires-clause-formed : goal.check_expr-requires-clause-formed
 check_expr-requires-clause-formed c =
     let l : VarName × ExprTree = (c.at.result.now.0, expr_of c.at.result.now.1) in
-    subst (λ n. IsFormed n l.1) (sym (ap length c.deref.ensures.value ∙ c.loop-k.invariant.long)) (c.requires.formed.0 c.loop-k.k l c.at.ensures)
+    rw (ap length c.deref.ensures.value ∙ c.loop-k.invariant.long) (c.requires.formed.0 c.loop-k.k l c.at.ensures)
 
 pub check_expr-requires-clause-named : goal.check_expr-requires-clause-named
 check_expr-requires-clause-named c =
@@ -26,7 +26,7 @@ check_expr-requires-clause-named c =
 
 pub check_expr-requires-clause-among : goal.check_expr-requires-clause-among
 check_expr-requires-clause-among c =
-    subst (λ (known : List Bound). HasSureAmongVars (bounds_in c.args.names.now known)) (sym c.deref.ensures.value) c.loop-k.invariant.knows.among
+    rw c.deref.ensures.value c.loop-k.invariant.knows.among
 
 pub returns-in-Err-clause-fault : goal.returns-in-Err-clause-fault
 returns-in-Err-clause-fault c =
@@ -35,7 +35,7 @@ returns-in-Err-clause-fault c =
     let old = c.loop-k.known.items in
     inr (let_fault (query_of c.args.query.now) (bounds_in names old) c.loop-k.k l c.in-Err.fault c.at.ensures (length-map old (bound_in names) ∙ c.loop-k.invariant.long) c.loop-k.invariant.knows
     c.loop-k.invariant.passed
-    (subst (λ (known : List Bound). IsExprFault (vars_known (bounds_in names known)) (sure_known (bounds_in names known)) l.1 c.in-Err.fault) c.deref.ensures.value c.in-Err.ensures))
+    (rw (← c.deref.ensures.value) c.in-Err.ensures))
 
 pub loop-k-preserved : goal.loop-k-preserved
 loop-k-preserved c =
@@ -45,9 +45,7 @@ loop-k-preserved c =
     let old = c.loop-k.known.items in
     let b = c.in-Ok.bound in
     let here =
-    subst (λ (known : List Bound). Passes (vars_known (bounds_in names known)) (sure_known (bounds_in names known)) l.1 ×
-    IsBoundOf (vars_known (bounds_in names known)) (sure_known (bounds_in names known)) l.1 (bound_in names b))
-    c.deref.ensures.value c.in-Ok.ensures in
+    rw c.deref.ensures.value at c.in-Ok.ensures in
     let next = known_next q (bounds_in names old) c.loop-k.k l (bound_in names b) c.at.ensures (length-map old (bound_in names) ∙
     c.loop-k.invariant.long) c.loop-k.invariant.knows c.loop-k.invariant.passed
     (c.requires.formed.0 c.loop-k.k l c.at.ensures) here.0 here.1 in
@@ -55,7 +53,7 @@ loop-k-preserved c =
     let all : bounds_in names c.push.new.self.items ≡ bounds_in names old ++ bound_in names b ∷ [] = ap (bounds_in names) is ∙ map-append (bound_in names) old (b ∷ []) in
     record {
       long = ap length is ∙ omega (arith, length-append old (b ∷ []), c.loop-k.invariant.long);
-      knows = subst (λ (known : List BoundNames). Knows q.lets known) (sym all) next.knows;
+      knows = rw all next.knows;
       passed = next.passed;
     }
 
@@ -67,7 +65,7 @@ returns-in-Ok-check_expr-clause-passes c =
     let over = c.loop-k-test.false in
     let all : (j : ℕ) → LetPasses q.lets j = λ j l is. c.loop-k.invariant.passed j (omega (arith, slice_get_within q.lets j l is, c.len-k-end.ensures, over)) l is in
     all_pass q (bounds_in names known) (omega (arith, length-map known (bound_in names), c.loop-k.invariant.long, c.len-k-end.ensures, over, c.loop-k.auto.k-end)) c.loop-k.invariant.knows all
-    (subst (λ (bs : List Bound). Passes (vars_known (bounds_in names bs)) (sure_known (bounds_in names bs)) q.body) c.deref-2.ensures.value c.in-Ok-check_expr.ensures.0)
+    (rw (← c.deref-2.ensures.value) c.in-Ok-check_expr.ensures.0)
 
 pub returns-clause-fault : goal.returns-clause-fault
 returns-clause-fault c =
@@ -78,4 +76,4 @@ returns-clause-fault c =
     let all : (j : ℕ) → LetPasses q.lets j = λ j l is. c.loop-k.invariant.passed j (omega (arith, slice_get_within q.lets j l is, c.len-k-end.ensures, over)) l is in
     inr (body_fault q (bounds_in names known) c.in-Err-check_expr.fault
     (omega (arith, length-map known (bound_in names), c.loop-k.invariant.long, c.len-k-end.ensures, over, c.loop-k.auto.k-end)) c.loop-k.invariant.knows all
-    (subst (λ (bs : List Bound). IsExprFault (vars_known (bounds_in names bs)) (sure_known (bounds_in names bs)) q.body c.in-Err-check_expr.fault) c.deref-2.ensures.value c.in-Err-check_expr.ensures))
+    (rw (← c.deref-2.ensures.value) c.in-Err-check_expr.ensures))

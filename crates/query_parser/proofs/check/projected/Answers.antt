@@ -54,10 +54,10 @@ returns c =
     let vars = members names c.loop-k.vars in
     let all : take c.loop-k.k keep ≡ keep = take_all c.loop-k.k keep (omega (arith, c.len-k-end.ensures.value, c.loop-k-test.false)) in
     let are : (x : VarName) → Has vars x ↔ Has keep x = λ x.
-    let added = subst (λ (xs : List VarName). Adds [] (Has xs) vars) all c.loop-k.invariant.vars x in
+    let added = rw all at c.loop-k.invariant.vars x in
     (λ h. elim (added.0 h) as (λ _. Has keep x) [ inl n ↦ absurd n | inr g ↦ g ], λ h. added.1 (inr h)) in
     let sure = members_both names c.loop-k.vars c.args.bound.sure c.meet.result c.requires c.meet.ensures in (
       are,
       λ x. (λ h. let p = (sure x).0 h in ((are x).0 p.0, p.1), λ h. (sure x).1 ((are x).1 h.0, h.1)),
-      λ x h. c.loop-k.invariant.known x (subst (λ (xs : List VarName). Has xs x) (sym all) h),
+      λ x h. c.loop-k.invariant.known x (rw all h),
     )

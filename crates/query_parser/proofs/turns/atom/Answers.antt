@@ -12,4 +12,4 @@ returns-in-Ok c =
     let a = atom_of c.in-Ok.atom in
     let found : IsAtomAt c.args.text.now c.args.at (a, c.in-Ok.after) = c.in-Ok.ensures.found in
     let is : c.args.at + (c.in-Ok.after - c.args.at) ≡ c.in-Ok.after = omega (arith, (atom_ends c.args.text.now c.args.at (a, c.in-Ok.after) found).moves) in
-    (a, subst (λ q. IsAtomAt c.args.text.now c.args.at (a, q)) (sym is) found, ap (λ e. with_unit e (nest_of c.args.nest.now)) (expr_of-Atom c.in-Ok.atom))
+    (a, rw is found, ap (λ e. with_unit e (nest_of c.args.nest.now)) (expr_of-Atom c.in-Ok.atom))
