@@ -43,8 +43,8 @@ module _ (A B : Automaton) (a : TakesNone A) (b : TakesNone B) (starts : (p : �
       let k = filter_cases (λ (y : Way). is_among set y.from && bytes.contains y.bytes c) X.ways y.0 y.1 in
       let r = way_edge X set c y.0 k.0 (among_has set y.0.from (left_true (is_among set y.0.from) (bytes.contains y.0.bytes c) k.1))
       (right_true (is_among set y.0.from) (bytes.contains y.0.bytes c) k.1) in
-      let there : Has (e ∷ []) r.0 = subst (λ es. Has es r.0) is r.1 in
-      elim there as (λ _. (q : ℕ) × Has e.to q) [ inl i ↦ (y.0.to, subst (λ (x : Reach). Has x.to y.0.to) (sym i) r.3) | inr n ↦ absurd n ]
+      let there : Has (e ∷ []) r.0 = rw is at r.1 in
+      elim there as (λ _. (q : ℕ) × Has e.to q) [ inl i ↦ (y.0.to, rw i r.3) | inr n ↦ absurd n ]
 
   abbrev target : Automaton → List ℕ → ℕ → List ℕ
   target X set c = set_of (map (λ (y : Way). y.to) (filter (λ (y : Way). nat_eq y.marks 0) (ways_taken X set c)))
@@ -55,9 +55,9 @@ module _ (A B : Automaton) (a : TakesNone A) (b : TakesNone B) (starts : (p : �
   goes_across : (X Y : Automaton) → ((p c q : ℕ) → StepsTo X p c q → StepsTo Y p c q) → (set : List ℕ) (c : ℕ) →
       edges X set (byte_read c) ≡ edge_to (target X set c) ∷ [] → edges Y set (byte_read c) ≡ edge_to (target Y set c) ∷ [] → (z : ℕ) → Has (target X set c) z → Has (target Y set c) z
   goes_across X Y by set c x y z h =
-      let r = across X Y by set c (edge_to (target X set c)) z (subst (λ es. Has es (edge_to (target X set c))) (sym x) (inl refl)) h in
-      let there : Has (edge_to (target Y set c) ∷ []) r.0 = subst (λ es. Has es r.0) y r.1 in
-      elim there as (λ _. Has (target Y set c) z) [ inl i ↦ subst (λ (e : Reach). Has e.to z) (sym i) r.2 | inr n ↦ absurd n ]
+      let r = across X Y by set c (edge_to (target X set c)) z (rw x (inl refl)) h in
+      let there : Has (edge_to (target Y set c) ∷ []) r.0 = rw y at r.1 in
+      elim there as (λ _. Has (target Y set c) z) [ inl i ↦ rw (← i) at r.2 | inr n ↦ absurd n ]
 
   edges_alike : (set : List ℕ) (c : ℕ) → edges A set (byte_read c) ≡ edges B set (byte_read c)
   edges_alike set c =
@@ -67,13 +67,13 @@ module _ (A B : Automaton) (a : TakesNone A) (b : TakesNone B) (starts : (p : �
           | inr y ↦
               let t = some_target B set c y.1 (edge_to (target B set c)) y.0 in
               let r = across B A (λ p k q. (steps p k q).1) set c (edge_to (target B set c)) t.0 (subst (λ es. Has es (edge_to (target B set c))) (sym y.0) (inl refl)) t.1 in
-              absurd (subst (λ es. Has es r.0) x r.1)
+              absurd (rw x at r.1)
         ]
         | inr x ↦ elim (edge_is B b set c) as (λ _. edges A set (byte_read c) ≡ edges B set (byte_read c)) [
           | inl y ↦
               let t = some_target A set c x.1 (edge_to (target A set c)) x.0 in
               let r = across A B (λ p k q. (steps p k q).0) set c (edge_to (target A set c)) t.0 (subst (λ es. Has es (edge_to (target A set c))) (sym x.0) (inl refl)) t.1 in
-              absurd (subst (λ es. Has es r.0) y r.1)
+              absurd (rw y at r.1)
           | inr y ↦
               let same = up_same (target A set c) (target B set c) (set_is_up (map (λ (z : Way). z.to) (filter (λ (z : Way). nat_eq z.marks 0) (ways_taken A set c))))
               (set_is_up (map (λ (z : Way). z.to) (filter (λ (z : Way). nat_eq z.marks 0) (ways_taken B set c))))

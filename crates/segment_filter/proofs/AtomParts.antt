@@ -52,7 +52,7 @@ module _ (s t : Bool) (P : Places) (lies : LiesFrom 1 P) (d : List ℕ) where
   after_led zero i r h = sym h
   after_led (suc n) i r h =
       let e = only_idle_after s t P lies d (λ i. 0) h.0 h.1 h.2 in
-      after_led n (suc i) r (subst (λ z. Passes A.ways d (suc i) n z r) (sym (ap (λ (y : Way). y.to) e)) h.4)
+      after_led n (suc i) r (rw (← (ap (λ (y : Way). y.to) e)) at h.4)
 
   -- from a place on
   abbrev FromPlace : ℕ → ℕ → ℕ → ℕ → Type 0
@@ -72,7 +72,7 @@ module _ (s t : Bool) (P : Places) (lies : LiesFrom 1 P) (d : List ℕ) where
                   | inl g ↦ inl ((h.0, f, h.2, h.3, g.0), g.1)
                   | inr g ↦ inr g
                 ]
-            | inr u ↦ inr (after_led n (suc i) r (subst (λ z. Passes A.ways d (suc i) n z r) (to_after h.0 u.1) h.4), u.0)
+            | inr u ↦ inr (after_led n (suc i) r (rw (to_after h.0 u.1) at h.4), u.0)
           ]
         ]
       ]
@@ -95,14 +95,14 @@ module _ (s t : Bool) (P : Places) (lies : LiesFrom 1 P) (d : List ℕ) where
   before_led (suc n) i r tied h =
       elim (ways_are h.0 h.1) [
         | inl a ↦
-            let rest = before_led n (suc i) r (not_true s (suc i ≡ 0) a.0) (subst (λ z. Passes A.ways d (suc i) n z r) (sym (ap (λ (g : Way). g.to) a.1)) h.4) in
+            let rest = before_led n (suc i) r (not_true s (suc i ≡ 0) a.0) (rw (← (ap (λ (g : Way). g.to) a.1)) at h.4) in
             let e : suc i + n ≡ i + suc n = omega arith in
-            subst (λ j. LedCases j r) e rest
+            rw (← e) rest
         | inr b ↦ elim b [
           | inl f ↦ first f.0 f.1 f.2
           | inr c ↦ elim c [
             | inl f ↦ absurd (omega (arith, (lies.froms h.0 f).0, h.2))
-            | inr u ↦ inr (inr (after_led n (suc i) r (subst (λ z. Passes A.ways d (suc i) n z r) (to_after h.0 u.1) h.4), u.0))
+            | inr u ↦ inr (inr (after_led n (suc i) r (rw (to_after h.0 u.1) at h.4), u.0))
           ]
         ]
       ]
@@ -114,8 +114,8 @@ module _ (s t : Bool) (P : Places) (lies : LiesFrom 1 P) (d : List ℕ) where
       first : (e : Entry) → Has P.first e → way_from_first e ≡ h.0 → LedCases (i + suc n) r
       first e k same =
           let to = lies.firsts e k in
-          let rest : Passes A.ways d (suc i) n e.to r = subst (λ z. Passes A.ways d (suc i) n z r) (sym (ap (λ (g : Way). g.to) same)) h.4 in
-          let byte : ReadsByte d i e.bytes = subst (λ (g : Way). ReadsByte d i g.bytes) (sym same) h.3 in
+          let rest : Passes A.ways d (suc i) n e.to r = rw (ap (λ (g : Way). g.to) same) h.4 in
+          let byte : ReadsByte d i e.bytes = rw (← same) at h.3 in
           elim (place_led n (suc i) e.to r (to.0, omega (arith, to.1)) rest) as (λ _. LedCases (i + suc n) r) [
             | inl g ↦ inr (inl ((i, n, e, refl, k, byte, g.0, tied), g.1))
             | inr g ↦ inr (inr g)
@@ -220,9 +220,9 @@ module _ (s t : Bool) (P : Places) (lies : LiesFrom 1 P) (d : List ℕ) where
       first : (e : Entry) → Has P.first e → way_from_first e ≡ h.0 → BeginsHere i
       first e k same =
           let to = lies.firsts e k in
-          first_here i e k (subst (λ (g : Way). ReadsByte d i g.bytes) (sym same) h.3)
+          first_here i e k (rw (← same) at h.3)
           (place_out n (suc i) e.to x (to.0, omega (arith, to.1)) (omega (arith, len)) stop
-          (subst (λ z. Passes A.ways d (suc i) n z x.state) (sym (ap (λ (g : Way). g.to) same)) h.4))
+          (rw (ap (λ (g : Way). g.to) same) h.4))
 
       null : t ≡ false → Has (after_ways after P) h.0 → BeginsHere i
       null free (inl same) = absurd (omega (arith, ap (λ (g : Way). g.from) same, h.2))
@@ -306,7 +306,7 @@ module _ (s t : Bool) (P : Places) (lies : LiesFrom 1 P) (d : List ℕ) where
             let to = lies.firsts e m in
             let z : y.from ≡ 0 = sym (ap (λ (g : Way). g.from) same) in
             never i k (here_in_part i (tied_before i y.from z led)
-            (first_here i e m (subst (λ (g : Way). ReadsByte d i g.bytes) (sym same) byte)
+            (first_here i e m (rw (← same) at byte)
             (out_of_place (suc i) e.to (to.0, omega (arith, to.1)) (subst (LeadsOut A d (suc i)) (sym (ap (λ (g : Way). g.to) same)) out))))
 
         ends : t ≡ false → Has (after_ways after P) y → (y.marks ≡ 0) × (y.to ≡ y.from)

@@ -41,11 +41,11 @@ module _ (names : List VarName) (atom : AtomTree) where
     pub read_fits : (a b : ℕ) → IsRead P d a b → (c : Captures) × Fit f d a b c
     read_fits a b (inl h) =
         let r = (shows_formula (opening_of names) (closing_of names) d f seq ord 1).null a h.1.0 h.1.1 in
-        (r.0, subst (λ x. Fit f d a x r.0) h.0 r.1)
+        (r.0, rw (← h.0) r.1)
     read_fits a b (inr h) =
         let w = passes_walk P.follow d h.0 (suc a) h.1.to h.2.state h.7 in
         let r = (shows_formula (opening_of names) (closing_of names) d f seq ord 1).reads a h.0 h.1.marks w.0 h.2.marks (h.1, h.2, h.4, h.5, refl, h.6, w.1, refl) in
-        (r.0, subst (λ x. Fit f d a x r.0) (sym h.3) r.1)
+        (r.0, rw h.3 r.1)
 
     pub fits_read : (a b : ℕ) (c : Captures) → Fit f d a b c → IsRead P d a b
     fits_read a b c h = go ((shows_formula (opening_of names) (closing_of names) d f seq ord 1).shown a b c h)
@@ -66,11 +66,11 @@ module _ (names : List VarName) (atom : AtomTree) where
   idle_ways p h =
       elim (Has-append_cases (unless s (0 ∷ [])) (unless t (suc P.count ∷ [])) p h) [
         | inl a ↦ let r = unless_cases s (0 ∷ []) p a in elim r.1 [
-          | inl e ↦ subst (λ x. Has (atom_automaton names atom).ways (idle_way x)) e (idle_there s t P (places_lie (opening_of names) (closing_of names) f 1) [] (λ i. 0) r.0)
+          | inl e ↦ rw (← e) (idle_there s t P (places_lie (opening_of names) (closing_of names) f 1) [] (λ i. 0) r.0)
           | inr b ↦ absurd b
         ]
         | inr a ↦ let r = unless_cases t (suc P.count ∷ []) p a in elim r.1 [
-          | inl e ↦ subst (λ x. Has (atom_automaton names atom).ways (idle_way x)) e
+          | inl e ↦ rw (← e)
               (after_there s t P (places_lie (opening_of names) (closing_of names) f 1) [] (λ i. 0) r.0 (idle_way (suc P.count)) (inl refl))
           | inr b ↦ absurd b
         ]

@@ -39,7 +39,7 @@ steps_remarked : (e : ℕ → ℕ) (A : Automaton) (p c q : ℕ) → StepsTo (re
 steps_remarked e A p c q = (
   λ h.
       let x = Has-map_cases (remarked_way e) A.ways h.0 h.1 in
-      (x.0, x.1, ap (λ (y : Way). y.from) x.2 ∙ h.2, subst (λ (y : Way). HasByte y.bytes c) (sym x.2) h.3, ap (λ (y : Way). y.to) x.2 ∙ h.4),
+      (x.0, x.1, ap (λ (y : Way). y.from) x.2 ∙ h.2, rw (← x.2) at h.3, ap (λ (y : Way). y.to) x.2 ∙ h.4),
   λ h. (remarked_way e h.0, Has-map (remarked_way e) A.ways h.0 h.1, h.2, h.3, h.4),
 )
 
@@ -47,7 +47,7 @@ steps_reversed : (A : Automaton) (p c q : ℕ) → StepsTo (reversed A) p c q �
 steps_reversed A p c q = (
   λ h.
       let x = Has-map_cases turned_way A.ways h.0 h.1 in
-      (x.0, x.1, ap (λ (y : Way). y.to) x.2 ∙ h.4, subst (λ (y : Way). HasByte y.bytes c) (sym x.2) h.3, ap (λ (y : Way). y.from) x.2 ∙ h.2),
+      (x.0, x.1, ap (λ (y : Way). y.to) x.2 ∙ h.4, rw (← x.2) at h.3, ap (λ (y : Way). y.from) x.2 ∙ h.2),
   λ h. (turned_way h.0, Has-map turned_way A.ways h.0 h.1, h.4, h.3, h.2),
 )
 
@@ -128,8 +128,8 @@ module _ (names : List VarName) (a : AtomTree) (A : Marked) (marked : IsMarked A
   costs_made keep X R empty is back up are =
       let plain : F ≡ X = sym (is ∙ ap (λ k. remarked (left_of names k) A.graph) empty) in
       let turned_plain : turned F ≡ R = ap turned plain ∙ sym back in
-      subst (λ ns. CostAs ns a X R) (names_one f names up are)
-      (subst (λ (x : Automaton). CostAs names a x R) plain (subst (λ (y : Automaton). CostAs names a F y) turned_plain plain_costs))
+      rw (← names_one f names up are)
+      (rw (← plain) (rw (← turned_plain) plain_costs))
 
 -- the steps of both readings, by the numbers of the definition
 pub steps_within : (s0 s1 n z y z' a b a' b' p : ℕ) → s1 ≤ s0 + (2 * (n + 1) + z * b + y * a) → z ≤ z' → y ≤ z' → b ≡ b' → a ≡ a' →

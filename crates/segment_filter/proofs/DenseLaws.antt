@@ -26,8 +26,8 @@ edges_kept : (old new : Tabled) (set b : ℕ) (to : Option ℕ) → new.graph �
     IsTarget new.sets (edges old.graph (set_at old.sets set) (byte_read b)) to →
     IsNext new set b new.sets to
 edges_kept old new set b to graph same next =
-    subst (λ (s : List ℕ). IsTarget new.sets (edges new.graph s (byte_read b)) to) same
-    (subst (λ A. IsTarget new.sets (edges A (set_at old.sets set) (byte_read b)) to) (sym graph) next)
+    rw (← same)
+    (rw graph next)
 
 -- where a set goes stays so
 pub goes_still : (old new : Tabled) (r : LookUp) (set b : ℕ) (to : Option ℕ) → new ≡ once_asked old r → GoesTo old set b to → GoesTo new set b to
@@ -37,7 +37,7 @@ goes_still old new r set b to is goes =
     let same : set_at old.sets set ≡ set_at new.sets set = sym (grew.sets.1 set goes.given) in
     record {
       given = omega (arith, goes.given, grew.sets.0);
-      asked = subst (λ (s : List ℕ). Has new.look_ups (let q : LookUp = record { set = s; ask = byte_read b } in q)) same (once_stay old new r h (look_up old set (byte_read b)) goes.asked);
+      asked = rw (← same) (once_stay old new r h (look_up old set (byte_read b)) goes.asked);
       next = edges_kept old new set b to h.graph same (target_grows new.sets old.sets grew.sets (edges old.graph (set_at old.sets set) (byte_read b)) to goes.next);
     }
 
@@ -53,7 +53,7 @@ goes_there old new set b to given is next =
     let same : set_at old.sets set ≡ set_at new.sets set = sym (grew.sets.1 set given) in
     record {
       given = omega (arith, given, grew.sets.0);
-      asked = subst (λ (s : List ℕ). Has new.look_ups (let q : LookUp = record { set = s; ask = byte_read b } in q)) same h.holds;
+      asked = rw (← same) h.holds;
       next = edges_kept old new set b to h.graph same next;
     }
 
@@ -64,7 +64,7 @@ pub told_room : (t : Tabled) (entries later : List ℕ) (wanted n : ℕ) (ok : B
 told_room t entries later wanted n false is more told = subst (AreTold t) (sym is) told
 told_room t entries later wanted n true is more told = λ set b e small at some.
     let all : later ≡ entries ++ replicate (wanted - n) 0 = is ∙ ap (λ (xs : List ℕ). xs ++ replicate (wanted - n) 0) (take_all wanted entries more) in
-    elim (either_part entries (replicate (wanted - n) 0) (256 * set + b) e (subst (λ (xs : List ℕ). slice_get xs (256 * set + b) ≡ Some e) all at)) as (λ _. GoesTo t set b (target_told e)) [
+    elim (either_part entries (replicate (wanted - n) 0) (256 * set + b) e (rw (← all) at)) as (λ _. GoesTo t set b (target_told e)) [
       | inl old ↦ told set b e small old some
       | inr new ↦ let none = zeros (wanted - n) new.0 e new.1 in absurd (omega (arith, none, some))
     ]
@@ -82,12 +82,12 @@ pub told_entry : (t : Tabled) (entries : List ℕ) (k b e at : ℕ) → b < 256 
     AreTold t (set entries at e)
 told_entry t entries k b e at small is within entry told j c d less there some = elim (cases_eq at (256 * j + c)) as (λ _. GoesTo t j c (target_told d)) [
   | inl same ↦
-      let here : slice_get (set entries at e) at ≡ Some d = subst (λ n. slice_get (set entries at e) n ≡ Some d) (sym same) there in
+      let here : slice_get (set entries at e) at ≡ Some d = rw (← same) at there in
       let value : e ≡ d = some_same e d (sym (get_set_same entries at e within) ∙ here) in
       let number : k ≡ j = omega (arith, small, less, is, same) in
       let byte : b ≡ c = omega (arith, small, less, is, same) in
-      subst (λ n. GoesTo t j c (target_told n)) value
-      (subst (λ n. GoesTo t j n (target_told e)) byte (subst (λ n. GoesTo t n b (target_told e)) number (entry (omega (arith, value, some)))))
+      rw (← value)
+      (rw (← byte) (rw (← number) (entry (omega (arith, value, some)))))
   | inr ne ↦ told j c d less (sym (get_set_other entries at (256 * j + c) e ne) ∙ there) some
 ]
 

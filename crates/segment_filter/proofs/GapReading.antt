@@ -24,7 +24,7 @@ rest_has (x ∷ xs) p h = (record { marks = 0; to = x ∷ xs }, inl refl, h)
 
 has_rest : (xs : List ℕ) (e : Reach) (p : ℕ) → Has (rest_edge xs) e → Has e.to p → Has xs p
 has_rest [] e p h k = absurd h
-has_rest (x ∷ xs) e p (inl s) k = subst (λ (r : Reach). Has r.to p) (sym s) k
+has_rest (x ∷ xs) e p (inl s) k = rw (← s) at k
 has_rest (x ∷ xs) e p (inr h) k = absurd h
 
 module _ (A : Automaton) (d : List ℕ) (K : ℕ → Bool) (w : ℕ → ℕ) where
@@ -92,7 +92,7 @@ module _ (A : Automaton) (d : List ℕ) (K : ℕ → Bool) (w : ℕ → ℕ) whe
               r.1,
               y.2,
               r.3,
-              (y.0, y.1, refl, y.4 ∙ h.2, (b, behind_head A d w b rest i at, y.3), subst (λ q. Walk A.ways d w (suc i) (length rest) q r.1.state) (sym y.5) r.4),
+              (y.0, y.1, refl, y.4 ∙ h.2, (b, behind_head A d w b rest i at, y.3), rw y.5 r.4),
               r.5 ∙ ap w e,
             )
         go false h = gap in_gap waits h.1 h.0

@@ -45,8 +45,8 @@ pub record HoldsAll (A : Automaton) (d : List ℕ) (t : Tabled) : Type 0 where
 module _ (A : Automaton) (d : List ℕ) where
   pub holding_starts : (t : Tabled) (set : List ℕ) → set ≡ set_of A.starts → IsHolding A d t 0 set
   holding_starts t set e = record {
-    sets = λ s h. inr (subst (λ (x : List ℕ). Has (sets_asked A (x ∷ []) (map byte_read d)) s) (sym e) h);
-    look_ups = λ r h. inr (subst (λ (x : List ℕ). Has (look_ups_asked A (x ∷ []) (map byte_read d)) r) (sym e) h);
+    sets = λ s h. inr (rw e h);
+    look_ups = λ r h. inr (rw e h);
   }
 
   -- all bytes were read
@@ -54,14 +54,14 @@ module _ (A : Automaton) (d : List ℕ) where
   holding_all t k j h below end = record {
     sets = λ s m. elim (h.sets s m) as (λ _. Has t.sets s) [
       | inl there ↦ there
-      | inr later ↦ elim (subst (λ (asks : List Question). Has (sets_asked A (set_at t.sets j ∷ []) asks) s) none later) as (λ _. Has t.sets s) [
+      | inr later ↦ elim (rw none at later) as (λ _. Has t.sets s) [
         | inl e ↦ subst (Has t.sets) e (Has-get_or t.sets j [] below)
         | inr n ↦ absurd n
       ]
     ];
     look_ups = λ r m. elim (h.look_ups r m) as (λ _. Has t.look_ups r) [
       | inl there ↦ there
-      | inr later ↦ absurd (subst (λ (asks : List Question). Has (look_ups_asked A (set_at t.sets j ∷ []) asks) r) none later)
+      | inr later ↦ absurd (rw none at later)
     ];
   }
     where
@@ -101,7 +101,7 @@ module _ (A : Automaton) (d : List ℕ) where
     sets_then s m = elim (h.sets s m) as (λ _. Has new.sets s ⊎ Has (sets_asked A next (map byte_read (drop (suc k) d))) s) [
       | inl old ↦ inl (once_sets_stay t new look_up_here kept s old)
       | inr later ↦ elim (
-          Has-append_cases (here ∷ []) (sets_asked A next (map byte_read (drop (suc k) d))) s (subst (λ (asks : List Question). Has (sets_asked A (here ∷ []) asks) s) asks_here later)
+          Has-append_cases (here ∷ []) (sets_asked A next (map byte_read (drop (suc k) d))) s (rw asks_here at later)
           ) as (λ _. Has new.sets s ⊎ Has (sets_asked A next (map byte_read (drop (suc k) d))) s) [
             | inl one ↦ elim one as (λ _. Has new.sets s ⊎ Has (sets_asked A next (map byte_read (drop (suc k) d))) s) [
               | inl e ↦ inl (subst (Has new.sets) e there)
@@ -115,7 +115,7 @@ module _ (A : Automaton) (d : List ℕ) where
     look_ups_then r m = elim (h.look_ups r m) as (λ _. Has new.look_ups r ⊎ Has (look_ups_asked A next (map byte_read (drop (suc k) d))) r) [
       | inl old ↦ inl (once_stay t new look_up_here kept r old)
       | inr later ↦ elim (
-          Has-append_cases (look_up_here ∷ []) (look_ups_asked A next (map byte_read (drop (suc k) d))) r (subst (λ (asks : List Question). Has (look_ups_asked A (here ∷ []) asks) r) asks_here later)
+          Has-append_cases (look_up_here ∷ []) (look_ups_asked A next (map byte_read (drop (suc k) d))) r (rw asks_here at later)
           ) as (λ _. Has new.look_ups r ⊎ Has (look_ups_asked A next (map byte_read (drop (suc k) d))) r) [
             | inl one ↦ elim one as (λ _. Has new.look_ups r ⊎ Has (look_ups_asked A next (map byte_read (drop (suc k) d))) r) [
               | inl e ↦ inl (subst (Has new.look_ups) e kept.holds)
@@ -134,7 +134,7 @@ module _ (A : Automaton) (d : List ℕ) where
 
     module _ (to : Option ℕ) (led : IsNext t j b new.sets to) where
       target_of : (es : List Reach) → edges A here (byte_read b) ≡ es → IsTarget new.sets es to
-      target_of es e = subst (λ (xs : List Reach). IsTarget new.sets xs to) (ap (λ (g : Automaton). edges g here (byte_read b)) graph ∙ e) led
+      target_of es e = rw (← (ap (λ (g : Automaton). edges g here (byte_read b)) graph ∙ e)) led
 
       next_some : (n : ℕ) → to ≡ Some n → next ≡ set_at new.sets n ∷ []
       next_some n e = elim (edge_is A takes_none here b) as (λ _. next ≡ set_at new.sets n ∷ []) [
@@ -155,8 +155,8 @@ module _ (A : Automaton) (d : List ℕ) where
       pub holding_next : (n : ℕ) → to ≡ Some n → IsHolding A d new (k + 1) (set_at new.sets n)
       holding_next n e =
           subst (λ i. IsHolding A d new i (set_at new.sets n)) one (record {
-            sets = λ s m. subst (λ (ss : List (List ℕ)). Has new.sets s ⊎ Has (sets_asked A ss (map byte_read (drop (suc k) d))) s) (next_some n e) (sets_then s m);
-            look_ups = λ r m. subst (λ (ss : List (List ℕ)). Has new.look_ups r ⊎ Has (look_ups_asked A ss (map byte_read (drop (suc k) d))) r) (next_some n e) (look_ups_then r m);
+            sets = λ s m. rw (next_some n e) at (sets_then s m);
+            look_ups = λ r m. rw (next_some n e) at (look_ups_then r m);
           })
         where
           one : suc k ≡ k + 1
@@ -165,15 +165,14 @@ module _ (A : Automaton) (d : List ℕ) where
       -- it leads to none, so that nothing is asked for later
       pub holding_ends : to ≡ None → HoldsAll A d new
       holding_ends e = record {
-        sets = λ s m. elim (subst (λ (ss : List (List ℕ)). Has new.sets s ⊎ Has (sets_asked A ss (map byte_read (drop (suc k) d))) s) (next_none e) (sets_then s m)) as (λ _. Has new.sets s) [
+        sets = λ s m. elim (rw (next_none e) at (sets_then s m)) as (λ _. Has new.sets s) [
           | inl held ↦ held
           | inr more ↦ absurd (no_sets A (map byte_read (drop (suc k) d)) s more)
         ];
-        look_ups = λ r m. elim (subst (λ (ss : List (List ℕ)). Has new.look_ups r ⊎ Has (look_ups_asked A ss (map byte_read (drop (suc k) d))) r)
-            (next_none e) (look_ups_then r m)) as (λ _. Has new.look_ups r) [
-              | inl held ↦ held
-              | inr more ↦ absurd (no_look_ups A (map byte_read (drop (suc k) d)) r more)
-            ];
+        look_ups = λ r m. elim (rw (next_none e) at (look_ups_then r m)) as (λ _. Has new.look_ups r) [
+          | inl held ↦ held
+          | inr more ↦ absurd (no_look_ups A (map byte_read (drop (suc k) d)) r more)
+        ];
       }
 
   -- ---- what it weighs
@@ -188,7 +187,7 @@ module _ (A : Automaton) (d : List ℕ) where
           (λ x m. (x, h.sets x (has_once bytes_eq same_bytes bytes_itself (sets_read A d) x m), refl, omega arith)) (λ x z y a b. a ∙ sym b)
 
       look_ups_less : sum_by (λ r. 1 + look_up_edges A r) (once look_up_same (bytes_read A d)) ≤ look_ups_weight t.graph t.look_ups
-      look_ups_less = subst (λ g. sum_by (λ r. 1 + look_up_edges A r) (once look_up_same (bytes_read A d)) ≤ look_ups_weight g t.look_ups) (sym graph)
+      look_ups_less = rw graph
           (match_sum (λ (x y : LookUp). x ≡ y) (λ r. 1 + look_up_edges A r) (λ r. 1 + look_up_edges A r) (once look_up_same (bytes_read A d)) t.look_ups
           (once_distinct look_up_same same_look_up look_up_itself (bytes_read A d))
           (λ r m. (r, h.look_ups r (has_once look_up_same same_look_up look_up_itself (bytes_read A d) r m), refl, omega arith)) (λ x z y a b. a ∙ sym b))

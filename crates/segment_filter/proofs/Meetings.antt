@@ -52,7 +52,7 @@ pub more_kept : (t : Tabled) (d items old : List ℕ) (k j : ℕ) → length old
     (length items ≡ k + 1 + 1) × AreLed t d items
 more_kept t d items old k j count led here is = (
   ap length is ∙ (length-append old (j ∷ []) ∙ (let e : length old + 1 ≡ k + 1 + 1 = omega arith in e)),
-  subst (AreLed t d) (sym is) (led_more t d old j led (subst (λ n. IsAt t d n j) (sym count) here)),
+  subst (AreLed t d) (sym is) (led_more t d old j led (rw count here)),
 )
 
 -- no further set is led to
@@ -81,8 +81,8 @@ pub meets_is : (old first back : Tabled) (d kept : List ℕ) (j at behind most :
 meets_is old first back d kept j at behind most meets all grows here sum are =
     let led : (q : ℕ) → Has (set_at old.sets j) q ↔ IsLed first.graph d at q =
     λ q. (
-      λ m. subst (λ (A : Automaton). IsLed A d at q) grows.graph ((here.2 q).0 m),
-      λ m. (here.2 q).1 (subst (λ (A : Automaton). IsLed A d at q) (sym grows.graph) m),
+      λ m. rw (← grows.graph) ((here.2 q).0 m),
+      λ m. (here.2 q).1 (rw grows.graph m),
     ) in
     let is = meet_is first.graph back d kept (set_at old.sets j) at behind most all led sum in
     (λ t. is.0 (are.0 t), λ m. are.1 (is.1 m))
@@ -123,8 +123,8 @@ remembered_more most new old others (Some c) e h =
     let same = e.1 c.set h.0 in (
       omega (arith, h.0, e.0),
       (
-        λ t. subst (λ s. HaveShared most s (set_at others c.other)) (sym same) (h.1.0 t),
-        λ k. h.1.1 (subst (λ s. HaveShared most s (set_at others c.other)) same k),
+        λ t. rw same (h.1.0 t),
+        λ k. h.1.1 (rw (← same) k),
       ),
     )
 

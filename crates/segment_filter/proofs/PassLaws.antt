@@ -13,11 +13,11 @@ pub pass_then : (ways : List Way) (d : List ℕ) (n m i j p r q : ℕ) → j ≡
 pass_then ways d zero m i j p r q at h k =
     let e : m ≡ zero + m = omega arith in
     let f : j ≡ i = omega arith in
-    subst (λ x. Passes ways d i x p q) e (subst (λ x. Passes ways d i m x q) (sym h) (subst (λ x. Passes ways d x m r q) f k))
+    rw (← e) (rw h (rw (← f) k))
 pass_then ways d (suc n) m i j p r q at h k =
     let e : suc (n + m) ≡ suc n + m = omega arith in
     let f : j ≡ suc i + n = omega arith in
-    subst (λ x. Passes ways d i x p q) e (h.0, h.1, h.2, h.3, pass_then ways d n m (suc i) j h.0.to r q f h.4 k)
+    rw (← e) (h.0, h.1, h.2, h.3, pass_then ways d n m (suc i) j h.0.to r q f h.4 k)
 
 pub pass_more : (ways more : List Way) (d : List ℕ) → ((y : Way) → Has ways y → Has more y) →
     (n i p q : ℕ) → Passes ways d i n p q → Passes more d i n p q
@@ -29,13 +29,13 @@ pub pass_cut : (ways : List Way) (d : List ℕ) (n m i p q : ℕ) → Passes way
 pass_cut ways d zero m i p q h =
     let e : zero + m ≡ m = omega arith in
     let f : i ≡ i + zero = omega arith in
-    (p, refl, subst (λ x. Passes ways d x m p q) f (subst (λ x. Passes ways d i x p q) e h))
+    (p, refl, rw (← f) (rw (← e) h))
 pass_cut ways d (suc n) m i p q h =
     let e : suc n + m ≡ suc (n + m) = omega arith in
-    let g = subst (λ x. Passes ways d i x p q) e h in
+    let g = rw e at h in
     let r = pass_cut ways d n m (suc i) g.0.to q g.4 in
     let f : suc i + n ≡ i + suc n = omega arith in
-    (r.0, (g.0, g.1, g.2, g.3, r.1), subst (λ x. Passes ways d x m r.0 q) f r.2)
+    (r.0, (g.0, g.1, g.2, g.3, r.1), rw (← f) r.2)
 
 pub walk_passes : (ways : List Way) (d : List ℕ) (w : ℕ → ℕ) (n i p q : ℕ) → Walk ways d w i n p q → Passes ways d i n p q
 walk_passes ways d w zero i p q h = h
@@ -69,7 +69,7 @@ pub pass_on : (ways : List Way) (d : List ℕ) (n i j p : ℕ) (y : Way) → j �
     ReadsByte d j y.bytes → Passes ways d i (suc n) p y.to
 pass_on ways d n i j p y at h k byte =
     let e : n + 1 ≡ suc n = omega arith in
-    subst (λ x. Passes ways d i x p y.to) e (pass_then ways d n 1 i j p y.from y.to at h (y, k, refl, byte, refl))
+    rw e at (pass_then ways d n 1 i j p y.from y.to at h (y, k, refl, byte, refl))
 
 module _ (A : Automaton) (d : List ℕ) where
   pub led_on : (i : ℕ) (y : Way) → IsLed A d i y.from → Has A.ways y → ReadsByte d i y.bytes → IsLed A d (suc i) y.to

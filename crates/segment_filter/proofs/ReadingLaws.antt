@@ -42,7 +42,7 @@ passes_by : (A B : Automaton) (d : List ℕ) → ((p b q : ℕ) → StepsTo A p 
 passes_by A B d by zero i p q h = h
 passes_by A B d by (suc n) i p q h =
     let y = by p h.3.0 h.0.to (h.0, h.1, h.2, h.3.2, refl) in
-    (y.0, y.1, y.2, (h.3.0, h.3.1, y.3), passes_by A B d by n (suc i) y.0.to q (subst (λ x. Passes A.ways d (suc i) n x q) (sym y.4) h.4))
+    (y.0, y.1, y.2, (h.3.0, h.3.1, y.3), passes_by A B d by n (suc i) y.0.to q (rw y.4 h.4))
 
 module _ (A B : Automaton) (same : HasStepsOf A B) (d : List ℕ) where
   pub led_alike : (i p : ℕ) → IsLed A d i p ↔ IsLed B d i p
@@ -65,8 +65,7 @@ module _ (R B : Automaton) (d : List ℕ) (steps : (p b q : ℕ) → StepsTo R p
   pass_turned (suc n) k i p q at h =
       let y = (steps p h.3.0 h.0.to).0 (h.0, h.1, h.2, h.3.2, refl) in
       let rest = pass_turned n (suc k) i h.0.to q (omega (arith, at)) h.4 in
-      subst (λ x. Passes B.ways d i (suc n) q x) y.4
-      (pass_on B.ways d n i (i + n) q y.0 refl (subst (Passes B.ways d i n q) (sym y.2) rest) y.1
+      rw y.4 at (pass_on B.ways d n i (i + n) q y.0 refl (subst (Passes B.ways d i n q) (sym y.2) rest) y.1
       (h.3.0, byte_straight d (i + n) k h.3.0 (omega (arith, at)) h.3.1, y.3))
 
   pass_straight : (n k i p q : ℕ) → i + n + k ≡ length d → Passes B.ways d i n q p → Passes R.ways (reverse d) k n p q
@@ -74,7 +73,7 @@ module _ (R B : Automaton) (d : List ℕ) (steps : (p b q : ℕ) → StepsTo R p
   pass_straight (suc n) k i p q at h =
       let y = (steps h.0.to h.3.0 q).1 (h.0, h.1, h.2, h.3.2, refl) in
       let rest = pass_straight n k (suc i) p h.0.to (omega (arith, at)) h.4 in
-      subst (λ x. Passes R.ways (reverse d) k (suc n) p x) y.4
+      rw (← y.4)
       (pass_on R.ways (reverse d) n k (k + n) p y.0 refl (subst (Passes R.ways (reverse d) k n p) (sym y.2) rest) y.1
       (h.3.0, reads_reversed d i (k + n) h.3.0 (omega (arith, at)) h.3.1, y.3))
 
@@ -86,7 +85,7 @@ module _ (R B : Automaton) (d : List ℕ) (steps : (p b q : ℕ) → StepsTo R p
         (n, x.0, omega (arith, l), x.1, subst (Passes B.ways d i n p) (sym x.2) (pass_turned n 0 i h.0 p (omega (arith, l)) h.2)),
     λ h.
         let n : h.0 ≡ length d - i = omega (arith, h.2) in
-        (h.1.state, (starts h.1.state).1 (h.1, h.3, refl), subst (λ k. Passes R.ways (reverse d) 0 k h.1.state p) n (pass_straight h.0 0 i h.1.state p (omega (arith, h.2)) h.4)),
+        (h.1.state, (starts h.1.state).1 (h.1, h.3, refl), rw (← n) (pass_straight h.0 0 i h.1.state p (omega (arith, h.2)) h.4)),
   )
 
 -- ---- the automaton of an atom, and the one that is made
@@ -123,7 +122,7 @@ module _ (A B : Automaton) (e : ℕ → ℕ) (a : IsWhole A) (b : IsWhole B) (g 
       let x = Has-map_cases (remarked_way e) A.ways h.0 h.1 in
       let from = ap (λ (y : Way). y.from) x.2 in
       let to = ap (λ (y : Way). y.to) x.2 in
-      let y = way_back A B (same_below B.states) g (λ b k. k) r x.0.from c x.0 x.1 (known x.0.from (a.froms x.0 x.1)) (subst (λ (z : Way). HasByte z.bytes c) (sym x.2) h.3) in
+      let y = way_back A B (same_below B.states) g (λ b k. k) r x.0.from c x.0 x.1 (known x.0.from (a.froms x.0 x.1)) (rw (← x.2) at h.3) in
       (y.0, y.1, y.2 ∙ (from ∙ h.2), y.3, (below_known y.0.to x.0.to y.5).1 ∙ (to ∙ h.4))
 
   steps_back : (p c q : ℕ) → StepsTo B p c q → StepsTo (remarked e A) p c q
@@ -235,7 +234,7 @@ module _ (s t : Bool) (P : Places) (lies : LiesFrom 1 P) where
             let k = filter_cases moves_on F.ways x.0 x.1 in
             let from : x.0.to ≡ p = ap (λ (y : Way). y.from) x.2 ∙ h.2 in
             let to : x.0.from ≡ q = ap (λ (y : Way). y.to) x.2 ∙ h.4 in
-            let y = (same.steps q c p).0 (x.0, k.0, to, subst (λ (z : Way). HasByte z.bytes c) (sym x.2) h.3, from) in
+            let y = (same.steps q c p).0 (x.0, k.0, to, rw (← x.2) at h.3, from) in
             (y.0, tied_way y.0 y.1 (λ a b. true_moves x.0 k.1 (to ∙ (sym y.2 ∙ a)) (from ∙ (sym y.4 ∙ b))), y.2, y.3, y.4)
 
         back : StepsTo (automaton_of_places true t P) q c p → StepsTo (turned F) p c q
@@ -324,5 +323,5 @@ module _ (names : List VarName) (a : AtomTree) (A : Automaton) (whole : IsWhole 
   readings_made built sequential keep F R most none is back places =
       let plain : Plain names a A whole r ≡ F = sym (is ∙ ap (λ k. remarked (left_of names k) A) none) in
       let turned_plain : turned (Plain names a A whole r) ≡ R = ap turned plain ∙ sym back in
-      subst (λ (X : Automaton). AreReadingsOf a X R most) plain
-      (subst (λ (Y : Automaton). AreReadingsOf a (Plain names a A whole r) Y most) turned_plain (plain_readings names a A whole r built sequential most places))
+      rw (← plain)
+      (rw (← turned_plain) (plain_readings names a A whole r built sequential most places))

@@ -36,7 +36,7 @@ led_last A d i q h =
     let c = pass_cut A.ways d i 1 0 h.0 q (subst (λ n. Passes A.ways d 0 n h.0 q) e h.2) in
     let y = c.2 in
     let z : 0 + i ≡ i = omega arith in
-    (y.0, y.1, (h.0, h.1, subst (Passes A.ways d 0 i h.0) (sym y.2) c.1), subst (λ j. ReadsByte d j y.0.bytes) z y.3, y.4)
+    (y.0, y.1, (h.0, h.1, subst (Passes A.ways d 0 i h.0) (sym y.2) c.1), rw z at y.3, y.4)
 
 -- what a set leads to is led to one byte later
 pub led_next : (A : Automaton) (d : List ℕ) (k b : ℕ) (set : List ℕ) → slice_get d k ≡ Some b → ((q : ℕ) → Has set q ↔ IsLed A d k q) →
@@ -51,10 +51,10 @@ led_next A d k b set at are q = (
 
 -- where nothing is led to, nothing is later
 pub led_none : (A : Automaton) (d : List ℕ) (k : ℕ) → ((q : ℕ) → IsLed A d k q → ⊥) → (n q : ℕ) → IsLed A d (k + n) q → ⊥
-led_none A d k none zero q h = let e : k + 0 ≡ k = omega arith in none q (subst (λ j. IsLed A d j q) e h)
+led_none A d k none zero q h = let e : k + 0 ≡ k = omega arith in none q (rw (← e) h)
 led_none A d k none (suc n) q h =
     let e : k + suc n ≡ suc (k + n) = omega arith in
-    let y = led_last A d (k + n) q (subst (λ j. IsLed A d j q) e h) in
+    let y = led_last A d (k + n) q (rw e at h) in
     led_none A d k none n y.0.from y.2
 
 -- ---- one edge at most
@@ -89,7 +89,7 @@ module _ (A : Automaton) (none : TakesNone A) (set : List ℕ) (b : ℕ) where
         | inl n ↦ inl (ap (map (reach_with (ways_taken A set b))) n)
         | inr o ↦ inr (
           ap (map (reach_with (ways_taken A set b))) o,
-          has_block (map (λ (y : Way). y.marks) (ways_taken A set b)) 0 (subst (λ ms. Has ms 0) (sym o) (inl refl)),
+          has_block (map (λ (y : Way). y.marks) (ways_taken A set b)) 0 (rw o (inl refl)),
         )
       ]
 
@@ -97,23 +97,23 @@ module _ (A : Automaton) (none : TakesNone A) (set : List ℕ) (b : ℕ) where
   edge_leads : (e : Reach) → edges A set (byte_read b) ≡ e ∷ [] → (q : ℕ) → Has e.to q ↔ LeadsTo A set b q
   edge_leads e at q = (
     λ h.
-        let y = edge_way A set b e q (subst (λ es. Has es e) (sym at) (inl refl)) h in
+        let y = edge_way A set b e q (rw at (inl refl)) h in
         (y.0, y.1, y.2, y.3, y.5),
     λ h.
         let r = way_edge A set b h.0 h.1 h.2 h.3 in
-        let s : Has (e ∷ []) r.0 = subst (λ es. Has es r.0) at r.1 in
-        elim s [ inl i ↦ subst (λ (x : Reach). Has x.to q) (sym i) (subst (Has r.0.to) h.4 r.3) | inr n ↦ absurd n ],
+        let s : Has (e ∷ []) r.0 = rw at at r.1 in
+        elim s [ inl i ↦ rw i (subst (Has r.0.to) h.4 r.3) | inr n ↦ absurd n ],
   )
 
   no_edge : edges A set (byte_read b) ≡ [] → (q : ℕ) → LeadsTo A set b q → ⊥
-  no_edge at q h = let r = way_edge A set b h.0 h.1 h.2 h.3 in absurd (subst (λ es. Has es r.0) at r.1)
+  no_edge at q h = let r = way_edge A set b h.0 h.1 h.2 h.3 in absurd (rw at at r.1)
 
 -- ---- the sets of a table
 
 pub grows_not : (new old : Tabled) → new ≡ old → Grows new old
 grows_not new old e = record {
   graph = ap (λ (t : Tabled). t.graph) e;
-  sets = subst (λ (t : Tabled). Extends new.sets t.sets) e (omega arith, λ k l. refl);
+  sets = rw (← e) (omega arith, λ k l. refl);
 }
 
 pub grows_twice : (a b c : Tabled) → Grows a b → Grows b c → Grows a c
@@ -133,8 +133,8 @@ at_start t d h =
       s.0,
       (h.sets (set_at t.sets 0) (set_there t.sets 0 s.0)).order,
       λ q. (
-        λ m. (q, has_set t.graph.starts q (subst (λ xs. Has xs q) s.1 m), refl),
-        λ m. subst (λ xs. Has xs q) (sym s.1) (set_has t.graph.starts q (subst (Has t.graph.starts) m.2 m.1)),
+        λ m. (q, has_set t.graph.starts q (rw (← s.1) m), refl),
+        λ m. rw s.1 (set_has t.graph.starts q (subst (Has t.graph.starts) m.2 m.1)),
       ),
     )
   where
@@ -148,8 +148,8 @@ at_grows new old d k j g h =
       omega (arith, h.0, g.sets.0),
       subst (IsInOrder ◌<◌) (sym same) h.1,
       λ q. (
-        λ m. subst (λ (A : Automaton). IsLed A d k q) (sym g.graph) ((h.2 q).0 (subst (λ s. Has s q) same m)),
-        λ m. subst (λ s. Has s q) (sym same) ((h.2 q).1 (subst (λ (A : Automaton). IsLed A d k q) g.graph m)),
+        λ m. rw g.graph ((h.2 q).0 (rw (← same) m)),
+        λ m. rw same ((h.2 q).1 (rw (← g.graph) m)),
       ),
     )
 
@@ -160,8 +160,8 @@ module _ (new old : Tabled) (d : List ℕ) (k j b : ℕ) (none : TakesNone old.g
   pub at_next : (to : ℕ) → IsTabled new → IsNext old j b new.sets (Some to) → IsAt new d (k + 1) to
   at_next to tabled next =
       elim (edge_cases old.graph none (set_at old.sets j) b) [
-        | inl n ↦ let e : Some to ≡ None = subst (λ es. IsTarget new.sets es (Some to)) n next in absurd (cc)
-        | inr o ↦ one o.0 o.1 (subst (λ es. IsTarget new.sets es (Some to)) o.1 next)
+        | inl n ↦ let e : Some to ≡ None = rw n at next in absurd (cc)
+        | inr o ↦ one o.0 o.1 (rw o.1 at next)
       ]
     where
       one : (e : Reach) → edges old.graph (set_at old.sets j) (byte_read b) ≡ e ∷ [] → IsTarget new.sets (e ∷ []) (Some to) → IsAt new d (k + 1) to
@@ -173,11 +173,11 @@ module _ (new old : Tabled) (d : List ℕ) (k j b : ℕ) (none : TakesNone old.g
             below,
             (tabled.sets (set_at new.sets to) (set_there new.sets to below)).order,
             λ q. (
-              λ m. subst (λ (A : Automaton). IsLed A d (k + 1) q) (sym g.graph)
-                  (subst (λ n. IsLed old.graph d n q) more ((next_led q).0 ((edge_leads old.graph none (set_at old.sets j) b e is q).0 (subst (λ s. Has s q) set m)))),
-              λ m. subst (λ s. Has s q) (sym set)
+              λ m. rw g.graph
+                  (rw (← more) ((next_led q).0 ((edge_leads old.graph none (set_at old.sets j) b e is q).0 (rw (← set) m)))),
+              λ m. rw set
                   ((edge_leads old.graph none (set_at old.sets j) b e is q).1
-                  ((next_led q).1 (subst (λ n. IsLed old.graph d n q) (sym more) (subst (λ (A : Automaton). IsLed A d (k + 1) q) g.graph m)))),
+                  ((next_led q).1 (rw (← more) at (rw g.graph at m)))),
             ),
           )
 
@@ -188,8 +188,8 @@ module _ (new old : Tabled) (d : List ℕ) (k j b : ℕ) (none : TakesNone old.g
         | inl e ↦
             let more : n ≡ suc k + (n - suc k) = omega (arith, l) in
             led_none old.graph d (suc k) (λ q m. no_edge old.graph none (set_at old.sets j) b e q ((next_led q).1 m)) (n - suc k) p
-            (subst (λ x. IsLed old.graph d x p) more (subst (λ (A : Automaton). IsLed A d n p) g.graph led))
-        | inr o ↦ let t = subst (λ es. IsTarget new.sets es None) o.1 next in let e = t.1 in absurd (cc)
+            (rw more at (rw g.graph at led))
+        | inr o ↦ let t = rw o.1 at next in let e = t.1 in absurd (cc)
       ]
 
 last_cases : (xs : List ℕ) (j k i : ℕ) → slice_get (xs ++ j ∷ []) k ≡ Some i → (slice_get xs k ≡ Some i) ⊎ ((k ≡ length xs) × (j ≡ i))
@@ -210,7 +210,7 @@ pub led_more : (t : Tabled) (d numbers : List ℕ) (j : ℕ) → AreLed t d numb
 led_more t d numbers j h last k i at =
     elim (last_cases numbers j k i at) [
       | inl e ↦ h k i e
-      | inr e ↦ subst (IsAt t d k) e.1 (subst (λ n. IsAt t d n j) (sym e.0) last)
+      | inr e ↦ subst (IsAt t d k) e.1 (rw e.0 last)
     ]
 
 -- a byte from the end
@@ -233,11 +233,11 @@ meet_is F t d kept set at behind most all are sum = (there, back)
     there : (behind < length kept) × HaveShared most set (set_at t.sets (get_or kept behind 0)) → MeetAt F t.graph most d at
     there h =
         let j = all.led behind (get_or kept behind 0) (slice_get-get_or kept behind 0 h.0) in
-        (h.1.0, (are h.1.0).0 h.1.1, subst (λ n. IsLed t.graph (reverse d) n h.1.0) (sym is_behind) ((j.2 h.1.0).0 h.1.2), h.1.3)
+        (h.1.0, (are h.1.0).0 h.1.1, rw is_behind ((j.2 h.1.0).0 h.1.2), h.1.3)
 
     back : MeetAt F t.graph most d at → (behind < length kept) × HaveShared most set (set_at t.sets (get_or kept behind 0))
     back h =
-        let led : IsLed t.graph (reverse d) behind h.0 = subst (λ n. IsLed t.graph (reverse d) n h.0) is_behind h.2 in
+        let led : IsLed t.graph (reverse d) behind h.0 = rw (← is_behind) h.2 in
         elim (cases_lt behind (length kept)) as (λ _. (behind < length kept) × HaveShared most set (set_at t.sets (get_or kept behind 0))) [
           | inl l ↦
               let j = all.led behind (get_or kept behind 0) (slice_get-get_or kept behind 0 l) in

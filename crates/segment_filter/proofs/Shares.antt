@@ -29,7 +29,7 @@ after : (xs : List ℕ) (i r : ℕ) → (get_or xs i 0 ≡ r → ⊥) → Has (d
 after xs i r apart h =
     elim (drop_cases xs i r h) [
       | inl e ↦ absurd (apart e)
-      | inr k ↦ subst (λ n. Has (drop n xs) r) (sym (add-one i)) k
+      | inr k ↦ rw (add-one i) k
     ]
 
 pub stand_left : (a b : List ℕ) (i j : ℕ) → Ascends b → get_or a i 0 < get_or b j 0 → StandBehind a b i j → StandBehind a b (i + 1) j

@@ -60,7 +60,7 @@ module _ (s t : Bool) (P : Places) (lies : LiesFrom 1 P) (d : List ℕ) where
     before_passes i l tied = go s refl
       where
         go : (b : Bool) → s ≡ b → Passes F.ways d 0 i 0 0
-        go true at = subst (λ n. Passes F.ways d 0 n 0 0) (sym (tied at)) refl
+        go true at = rw (tied at) refl
         go false at = idle_passes F.ways 0 (idle_there s t P lies d (λ i. 0) at) i 0 (omega (arith, l))
 
     before_is_led : (i : ℕ) → i ≤ length d → (IsTrue s → i ≡ 0) → IsLed F d i 0
@@ -136,14 +136,14 @@ module _ (s t : Bool) (P : Places) (lies : LiesFrom 1 P) (d : List ℕ) where
                   0,
                   omega arith,
                   before_is_led i within (λ x. at ∙ h.4 x),
-                  subst (λ v. LeadsOut B d v 0) (sym at)
+                  rw at
                       (suc rest.0, rest.1, omega (arith, rest.2), rest.3, (way_from_first r.1, first_there true t P lies d (λ i. 0) r.1 r.4, refl, r.6, rest.4)),
                 )
             from (inr (inr more)) =
                 let n = i - suc h.0 in
                 let m = r.0 - n in
                 let sum : r.0 ≡ n + m = omega (arith, r.3, h.7, more) in
-                let c = pass_cut P.follow d n m (suc h.0) r.1.to r.2.state (subst (λ v. Passes P.follow d (suc h.0) v r.1.to r.2.state) sum r.7) in
+                let c = pass_cut P.follow d n m (suc h.0) r.1.to r.2.state (rw (← sum) r.7) in
                 let at : suc h.0 + n ≡ i = omega (arith, more) in
                 let led = before_passes h.0 start h.4 in
                 let one = pass_on F.ways d h.0 0 h.0 0 (way_from_first r.1) (let z : h.0 ≡ 0 + h.0 = omega arith in z) led (first_there s t P lies d (λ i. 0) r.1 r.4) r.6 in
@@ -154,11 +154,10 @@ module _ (s t : Bool) (P : Places) (lies : LiesFrom 1 P) (d : List ℕ) where
                   (
                     0,
                     inl refl,
-                    subst (λ v. Passes F.ways d 0 v 0 c.0) at
-                        (pass_then F.ways d (suc h.0) n 0 (suc h.0) 0 r.1.to c.0 (let z : suc h.0 ≡ 0 + suc h.0 = omega arith in z) one
+                    rw at at (pass_then F.ways d (suc h.0) n 0 (suc h.0) 0 r.1.to c.0 (let z : suc h.0 ≡ 0 + suc h.0 = omega arith in z) one
                         (pass_more P.follow F.ways d (follow_there s t P lies d (λ i. 0)) n (suc h.0) r.1.to c.0 c.1)),
                   ),
-                  place_out i m c.0 h.1 r.2 j (subst (λ v. Passes P.follow d v m c.0 r.2.state) at c.2) r.5 h.3 h.5,
+                  place_out i m c.0 h.1 r.2 j (rw at at c.2) r.5 h.3 h.5,
                 )
 
 pub sharing_law : SharingLaw

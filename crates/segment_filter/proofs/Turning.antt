@@ -25,8 +25,8 @@ turned_way_of A m none y h =
 pub turned_ways_of : (A : Marked) → IsMarked A → TakesNone A.graph → (items : List Way) (states v : ℕ) → items ≡ map turned_way (filter moves_on A.graph.ways) →
     states ≡ A.graph.states → v ≡ 0 → (k : ℕ) (d : Way) → k < length items → IsWayOf states v (get_or items k d)
 turned_ways_of A m none items states v is s z k d l =
-    let there : Has (map turned_way (filter moves_on A.graph.ways)) (get_or items k d) = subst (λ ys. Has ys (get_or items k d)) is (Has-get_or items k d l) in
-    subst (λ n. IsWayOf n v (get_or items k d)) (sym s) (subst (λ n. IsWayOf A.graph.states n (get_or items k d)) (sym z) (turned_way_of A m none (get_or items k d) there))
+    let there : Has (map turned_way (filter moves_on A.graph.ways)) (get_or items k d) = rw (← is) (Has-get_or items k d l) in
+    rw s (rw z (turned_way_of A m none (get_or items k d) there))
 
 -- with the starts of the first n ends
 abbrev pub turned_to : Automaton → ℕ → Automaton
@@ -41,7 +41,7 @@ turned_to A n = record {
 pub stop_inside : (A : Marked) → IsMarked A → (B : Automaton) (n i : ℕ) (xs : List Stop) (x : Stop) → xs ≡ A.graph.stops → i < length xs → x ≡ get_or xs i x →
     B ≡ turned_to A.graph n → x.state < B.states
 stop_inside A m B n i xs x same l at is =
-    let there : Has A.graph.stops x = subst (λ ys. Has ys x) same (subst (Has xs) (sym at) (Has-get_or xs i x l)) in
+    let there : Has A.graph.stops x = rw (← same) (subst (Has xs) (sym at) (Has-get_or xs i x l)) in
     let below = m.whole.stops x there in
     let states : B.states ≡ A.graph.states = ap (λ (C : Automaton). C.states) is in
     omega (arith, below, states)

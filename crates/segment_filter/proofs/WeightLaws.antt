@@ -46,7 +46,7 @@ module _ (A : Automaton) where
   met_look_up sets [] k set a h e = absurd (cc)
   met_look_up sets (b ∷ later) zero set a h e =
       let same : b ≡ a = ap (λ o. unwrap_or o b) e in
-      subst (λ x. Has (look_ups_asked A sets (b ∷ later)) (look_up_of x set)) same
+      rw (← same)
       (Has-append_left (map (look_up_of b) sets) (look_ups_asked A (next_sets A sets b) later) (look_up_of b set) (Has-map (look_up_of b) sets set h))
   met_look_up sets (b ∷ later) (suc k) set a h e =
       Has-append_right (map (look_up_of b) sets) (look_ups_asked A (next_sets A sets b) later) (look_up_of a set) (met_look_up (next_sets A sets b) later k set a h e)
@@ -57,7 +57,7 @@ module _ (A : Automaton) where
   met_next sets (b ∷ later) zero set a e h at m =
       let same : b ≡ a = ap (λ o. unwrap_or o b) at in
       once_has bytes_eq same_bytes bytes_itself (flat_map (λ set. map (λ (x : Reach). x.to) (edges A set b)) sets) e.to
-      (has_flat_map (λ set. map (λ (x : Reach). x.to) (edges A set b)) sets set e.to h (Has-map (λ (x : Reach). x.to) (edges A set b) e (subst (λ c. Has (edges A set c) e) (sym same) m)))
+      (has_flat_map (λ set. map (λ (x : Reach). x.to) (edges A set b)) sets set e.to h (Has-map (λ (x : Reach). x.to) (edges A set b) e (rw same m)))
   met_next sets (b ∷ later) (suc k) set a e h at m = met_next (next_sets A sets b) later k set a e h at m
 
 -- ---- tables
@@ -101,7 +101,7 @@ asks_at (c ∷ d) zero b e = ap (λ o. Some (byte_read (unwrap_or o b))) e
 asks_at (c ∷ d) (suc k) b e = asks_at d k b e
 
 pub within_fresh : (t : Tabled) (d : List ℕ) → t ≡ fresh t.graph t.limit → IsWithin t.graph d t
-within_fresh t d is = subst (λ (x : Tabled). IsWithin t.graph d x) (sym is) (record {
+within_fresh t d is = rw is (record {
   graph = refl;
   sets = λ set h. met_set t.graph (starting t.graph) (map byte_read d) 0 set h;
   look_ups = λ r h. absurd h;
@@ -111,7 +111,7 @@ within_fresh t d is = subst (λ (x : Tabled). IsWithin t.graph d x) (sym is) (re
 
 pub met_fresh : (t : Tabled) (d : List ℕ) (j : ℕ) → t ≡ fresh t.graph t.limit → j ≡ 0 → IsMet t.graph (starting t.graph) (map byte_read d) 0 (set_at t.sets j)
 met_fresh t d j is e =
-    subst (λ i. IsMet t.graph (starting t.graph) (map byte_read d) 0 (set_at t.sets i)) (sym e)
+    rw e
     (inl (sym (ap (λ (x : Tabled). set_at x.sets 0) is)))
 
 -- a set of a table that is met at the place k is asked for the byte there
@@ -126,7 +126,7 @@ module _ (A : Automaton) (d : List ℕ) (t : Tabled) (k j b : ℕ) (h : IsWithin
       subst (Has (sets_read A d)) e.2
       (met_set A (starting A) (map byte_read d) (suc k) e.0.to
       (met_next A (starting A) (map byte_read d) k (set_at t.sets j) (byte_read b) e.0 met (asks_at d k b at)
-      (subst (λ (g : Automaton). Has (edges g (set_at t.sets j) (byte_read b)) e.0) h.graph e.1)))
+      (rw (← h.graph) e.1)))
 
   new_look_up : Has (bytes_read A d) r
   new_look_up = met_look_up A (starting A) (map byte_read d) k (set_at t.sets j) (byte_read b) met (asks_at d k b at)
@@ -152,15 +152,15 @@ module _ (A : Automaton) (d : List ℕ) (t : Tabled) (k j b : ℕ) (h : IsWithin
       by (x ∷ es) is t2 =
           let same : t2.0 ≡ to = some_same t2.0 to (sym t2.1 ∙ e) in
           let there : Has (edges A (set_at t.sets j) (byte_read b)) x =
-          subst (λ (g : Automaton). Has (edges g (set_at t.sets j) (byte_read b)) x) h.graph (subst (λ ys. Has ys x) (sym is) (inl refl)) in
+          rw (← h.graph) (rw is (inl refl)) in
           let more : suc k ≡ k + 1 = omega arith in
           subst (IsMet A (starting A) (map byte_read d) (k + 1)) (sym (ap (set_at sets) (sym same) ∙ t2.3))
-          (subst (λ n. IsMet A (starting A) (map byte_read d) n x.to) more
+          (rw (← more)
           (met_next A (starting A) (map byte_read d) k (set_at t.sets j) (byte_read b) x met (asks_at d k b at) there))
 
   -- what was not asked before
   within_first : was_asked t r ≡ false → IsWithin A d (asked_first t r)
-  within_first none = subst (λ (x : Tabled). IsWithin A d x) (ap (λ (w : Bool). if w then t else asked_first t r) none) (within_next (once_asked t r) refl)
+  within_first none = rw (← (ap (λ (w : Bool). if w then t else asked_first t r) none)) (within_next (once_asked t r) refl)
 
   pub full_within : (e : FilterFault) → IsFullBy t r e → IsFullWithin t.limit (reading_weight A d) e
   full_within (Full w) f = (f.1, let m = weight_no_more A d (asked_first t r) (within_first f.0) in omega (arith, f.2, m))
@@ -178,7 +178,7 @@ module _ (A : Automaton) (d : List ℕ) (t : Tabled) (k j b : ℕ) (h : IsWithin
     first_count = ap (λ n. Z * n) (length-append t.look_ups (r ∷ []))
 
     pub steps_next : (new : Tabled) → new ≡ once_asked t r → s1 + Z * length t.look_ups ≤ s0 + 1 + Z * length new.look_ups
-    steps_next new is = subst (λ (x : Tabled). s1 + Z * length t.look_ups ≤ s0 + 1 + Z * length x.look_ups) (sym is) (go (was_asked t r) refl)
+    steps_next new is = rw is (go (was_asked t r) refl)
       where
         go : (w : Bool) → was_asked t r ≡ w → s1 + Z * length t.look_ups ≤ s0 + 1 + Z * length (if w then t else asked_first t r).look_ups
         go true e = omega (arith, again e)
@@ -249,7 +249,7 @@ module _ (first t : Tabled) (d : List ℕ) (k j s0 s : ℕ) (h : IsReading first
       limit_new = (holds_once t new (look_up t j (byte_read b)) is).limit ∙ h.limit
 
       light_new : IsTabled new → weight new ≤ first.limit
-      light_new tabled = subst (λ n. weight new ≤ n) limit_new tabled.within
+      light_new tabled = rw (← limit_new) tabled.within
 
       pub reading_next : (next : Option ℕ) (to : ℕ) → IsNext t j b new.sets next → to < length new.sets → next ≡ Some to → TakesNone first.graph → IsTabled new →
           IsReading first new d (k + 1) to s0 s1
@@ -274,7 +274,7 @@ module _ (first t : Tabled) (d : List ℕ) (k j s0 s : ℕ) (h : IsReading first
           (weight_no_more first.graph d new within_new, omega (arith, steps_new, m, l))
 
     pub reading_refused : (e : FilterFault) → IsFullBy t (look_up t j (byte_read b)) e → IsFullWithin first.limit (reading_weight first.graph d) e
-    reading_refused e f = subst (λ n. IsFullWithin n (reading_weight first.graph d) e) h.limit (full_within first.graph d t k j b h.within h.met h.below at e f)
+    reading_refused e f = rw (← h.limit) (full_within first.graph d t k j b h.within h.met h.below at e f)
 
     pub refused_steps : (n : ℕ) → k < n → s1 ≤ s0 + n + size first.graph * reading_look_ups first.graph d
     refused_steps n l = let m = steps_refused first.graph d t k j b h.within h.met h.below at s s1 again most in omega (arith, h.steps, m, l)

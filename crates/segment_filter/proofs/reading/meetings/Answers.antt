@@ -22,7 +22,7 @@ loop-at-init g c =
       right = c.in_ok-seen.ensures.right c.args.most t.sets c.args.back.now.table.sets;
       reading = reading_starts t c.args.doc.now c.start-set.result c.args.steps.now c.requires.fresh c.start-set.ensures.value c.start-set.ensures.tabled;
       here = subst (IsAt t c.args.doc.now 0) (sym c.start-set.ensures.value) (at_start t c.args.doc.now c.start-set.ensures.tabled);
-      covers = λ i. (λ h. absurd (subst (λ s. Covers s i) c.new-touched.ensures h), λ h. absurd (omega (arith, h.0)));
+      covers = λ i. (λ h. absurd (rw c.new-touched.ensures at h), λ h. absurd (omega (arith, h.0)));
     }
 
 pub meet-meets-requires-clause-numbers : goal.meet-meets-requires-clause-numbers
@@ -93,7 +93,7 @@ returns-clause-ok g c =
     let sum : at + 0 ≡ length d = omega (arith, end) in
     let is = meets_is old first back d (numbers_of c.args.back.now.numbers) c.loop-at.set at 0 c.args.most c.meet-meets-2.result
     c.requires.numbers inv.grows inv.here sum c.meet-meets-2.ensures.meets in
-    let marked = λ (q : ℕ). subst (λ n. Covers c.mark-2.new.touched q ↔ (Covers c.loop-at.touched q ⊎ (IsTrue c.meet-meets-2.result × (q ≡ n)))) (sym end) (c.in_ok-mark-2.ensures q) in
+    let marked = λ (q : ℕ). rw (← end) at (c.in_ok-mark-2.ensures q) in
     covers_all (Covers c.mark-2.new.touched) M at (length d) end
     (covers_more (Covers c.loop-at.touched) (Covers c.mark-2.new.touched) M c.meet-meets-2.result at inv.covers is marked)
 

@@ -22,11 +22,11 @@ returns-clause-full g c =
     let value = c.weight-spent.ensures.value in
     c.heavier-in-Err-meetings.ensures c.args.limit ahead (weight c.args.back.now.table) c.requires.limit
     (omega (arith, value, c.requires.within)) (omega (arith, value))
-    (subst (λ (t : Tabled). IsFullWithin t.limit (reading_weight t.graph d) c.in-Err-meetings.fault) c.in-Ok.ensures.ok c.in-Err-meetings.ensures.full)
+    (rw c.in-Ok.ensures.ok at c.in-Err-meetings.ensures.full)
 
 pub returns-in-Ok-meetings-clause-within : goal.returns-in-Ok-meetings-clause-within
 returns-in-Ok-meetings-clause-within g c =
     let d = c.args.doc.now in
     let value = c.weight-spent.ensures.value in
-    let within = subst (λ (t : Tabled). reading_weight t.graph d ≤ t.limit) c.in-Ok.ensures.ok c.in-Ok-meetings.ensures.within in
+    let within = rw c.in-Ok.ensures.ok at c.in-Ok-meetings.ensures.within in
     omega (arith, within, value, c.requires.within)

@@ -23,7 +23,7 @@ returns-in-Err-read_back-clause-full g c =
     let back = reading_weight c.args.readings.now.backward.graph (reverse d) in
     let ahead = reading_weight c.args.readings.now.forward.graph d in
     full_wider c.args.limit back (back + ahead) c.in-Err-read_back.fault (omega arith)
-    (subst (λ (t : Tabled). IsFullWithin t.limit (reading_weight t.graph (reverse d)) c.in-Err-read_back.fault) c.in-Ok.ensures.ok c.in-Err-read_back.ensures.full)
+    (rw c.in-Ok.ensures.ok at c.in-Err-read_back.ensures.full)
 
 pub returns-clause-full : goal.returns-clause-full
 returns-clause-full g c =
@@ -31,7 +31,7 @@ returns-clause-full g c =
     let back = reading_weight c.args.readings.now.backward.graph (reverse d) in
     let ahead = reading_weight c.args.readings.now.forward.graph d in
     let spent = weight c.read_back.new.table in
-    let weighs = subst (λ (t : Tabled). spent ≡ reading_weight t.graph (reverse d)) c.in-Ok.ensures.ok c.in-Ok-read_back.ensures.weight in
+    let weighs = rw c.in-Ok.ensures.ok at c.in-Ok-read_back.ensures.weight in
     IfErr-weaker c.touched_ahead.result (λ e. IsFullWithin c.args.limit (spent + ahead) e) (λ e. IsFullWithin c.args.limit (back + ahead) e)
     (λ e h. full_wider c.args.limit (spent + ahead) (back + ahead) e (omega (arith, weighs)) h) c.touched_ahead.ensures.full
 
@@ -39,7 +39,7 @@ pub returns-clause-within : goal.returns-clause-within
 returns-clause-within g c =
     let d = c.args.doc.now in
     let spent = weight c.read_back.new.table in
-    let weighs = subst (λ (t : Tabled). spent ≡ reading_weight t.graph (reverse d)) c.in-Ok.ensures.ok c.in-Ok-read_back.ensures.weight in
+    let weighs = rw c.in-Ok.ensures.ok at c.in-Ok-read_back.ensures.weight in
     on_ok_weaker c.touched_ahead.result (λ within. omega (arith, within, weighs)) c.touched_ahead.ensures.within
 
 pub returns-clause-ok : goal.returns-clause-ok
@@ -47,5 +47,5 @@ returns-clause-ok g c =
     let forward = c.args.readings.now.forward.graph in
     let most = c.args.readings.now.most in
     let d = c.args.doc.now in
-    let same = subst (λ (t : Tabled). c.read_back.new.table.graph ≡ t.graph) c.in-Ok.ensures.ok c.in-Ok-read_back.ensures.grows.graph in
-    subst (λ backward. IfOk c.touched_ahead.result (λ t. (i : ℕ) → Covers t i ↔ ((i ≤ length d) × MeetAt forward backward most d i))) same c.touched_ahead.ensures.ok
+    let same = rw c.in-Ok.ensures.ok at c.in-Ok-read_back.ensures.grows.graph in
+    rw (← same) c.touched_ahead.ensures.ok

@@ -8,7 +8,7 @@ use Rattle.segment_filter.proofs.dense.DenseTable.ask.Goals as goal
 pub invariant_of-self : goal.invariant_of-self
 invariant_of-self g c = (
   c.in-Err.ensures.tabled,
-  subst (λ (t : Tabled). AreTold t c.self.inside.told.entries.items) (sym c.in-Err.ensures.err) c.self.invariant.1,
+  rw c.in-Err.ensures.err c.self.invariant.1,
 )
 
 pub invariant_of-self-2 : goal.invariant_of-self-2
@@ -16,7 +16,7 @@ invariant_of-self-2 g c =
     let old = c.self.inside.table in
     let new = c.asked_target.new.table in
     let ok = c.in-Ok.ensures.ok in
-    let given = subst (λ (t : Tabled). c.args.set < length t.sets) (sym c.self.view_is) c.requires in (
+    let given = rw (← c.self.view_is) at c.requires in (
       c.in-Ok.ensures.tabled,
       c.enter.ensures new (c.make_room.ensures new (told_still old new (look_up old c.args.set (byte_read c.args.byte)) c.self.inside.told.entries.items ok.0 c.self.invariant.1))
           (goes_there old new c.args.set c.args.byte c.in-Ok.to given ok.0 ok.1),
