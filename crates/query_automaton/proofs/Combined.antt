@@ -94,7 +94,7 @@ step_is_part L o es k y l at =
 -- ---- what a union answers
 
 pub united_made : (A B u : Marked) → u.names ≡ all_names A.names B.names → Reduces u.graph (union_over A B u.names) → ReducesMarked u (of_union A B)
-united_made A B u names reduct = (names, subst (λ (ns : List VarName). Reduces u.graph (union_over A B ns)) names reduct)
+united_made A B u names reduct = (names, rw (← names) reduct)
 
 united_ways : (A B : Marked) → length (of_union A B).graph.ways ≡ length A.graph.ways + length B.graph.ways
 united_ways A B =

@@ -76,7 +76,7 @@ all_small Join (e ∷ es) h = (h e (inl refl), all_small Join es (λ g i. h g (i
 small_more : (es : List ExprTree) (k : ℕ) (y : ExprTree) → slice_get es k ≡ Some y → ((e : ExprTree) → Has (take k es) e → HasSmallAtoms e) → HasSmallAtoms y →
     (e : ExprTree) → Has (take (k + 1) es) e → HasSmallAtoms e
 small_more es k y at h g e i =
-    elim (Has-append_cases (take k es) (y ∷ []) e (subst (λ (zs : List ExprTree). Has zs e) (take_at_more es k y at) i)) as (λ _. HasSmallAtoms e) [
+    elim (Has-append_cases (take k es) (y ∷ []) e (rw (← take_at_more es k y at) i)) as (λ _. HasSmallAtoms e) [
       | inl a ↦ h e a
       | inr b ↦ elim b as (λ _. HasSmallAtoms e) [ inl same ↦ subst HasSmallAtoms same g | inr c ↦ absurd c ]
     ]
@@ -117,7 +117,7 @@ two_reduce Union A B C D a b c d r s =
     let names : all_names A.names C.names ≡ all_names B.names D.names =
     ap (λ (ns : List VarName). all_names ns C.names) r.0 ∙ ap (λ (ns : List VarName). all_names B.names ns) s.0 in (
       names,
-      subst (λ (ns : List VarName). Reduces (union_over A C ns) (of_union B D).graph) (sym names)
+      rw names
           (reduct_of_union_over A B C D (all_names B.names D.names) a b c d r.0 s.0 r.1 s.1),
     )
 two_reduce Join A B C D a b c d r s =
@@ -125,8 +125,8 @@ two_reduce Join A B C D a b c d r s =
     let reduces : Reduces (join_at B.names D.names A.graph C.graph) (of_join B D).graph =
     reduct_of_join (agree_on B.names D.names names) (joined B.names D.names names) A.graph B.graph C.graph D.graph a b c d r.1 s.1 in (
       ap (λ (ns : List VarName). all_names ns C.names) r.0 ∙ ap (λ (ns : List VarName). all_names B.names ns) s.0,
-      subst (λ (ns : List VarName). Reduces (join_at ns C.names A.graph C.graph) (of_join B D).graph) (sym r.0)
-          (subst (λ (ns : List VarName). Reduces (join_at B.names ns A.graph C.graph) (of_join B D).graph) (sym s.0) reduces),
+      rw r.0
+          (rw s.0 reduces),
     )
   where
     join_at : List VarName → List VarName → Automaton → Automaton → Automaton
@@ -221,15 +221,15 @@ module _ (q : QueryTree) (lets : List Marked) (known : AreCompiled q lets) where
   so_far_first o [] x a at c = absurd (cc)
   so_far_first o (e ∷ es) x a at c =
       let same : x ≡ e = cc in record {
-        reduces = subst (λ (M : Marked). ReducesMarked a M) (ap (automaton_of L) same ∙ sym (alone L o e)) c.reduces;
+        reduces = rw (← ap (automaton_of L) same ∙ sym (alone L o e)) c.reduces;
         small = λ w i. elim i as (λ _. HasSmallAtoms w) [ inl j ↦ subst HasSmallAtoms (same ∙ j) c.small | inr j ↦ absurd j ];
       }
 
   pub so_far_all : (o : Operation) (es : List ExprTree) (a : Marked) (k : ℕ) → k ≡ length es → SoFar q N o es k a → IsCompiledFrom q N (all_of o es) a
   so_far_all o es a k e s =
       let whole : take k es ≡ es = ap (λ n. take n es) e ∙ take-length es in record {
-        reduces = subst (λ (zs : List ExprTree). ReducesMarked a (automaton_of L (all_of o zs))) whole s.reduces;
-        small = all_small o es (λ g i. s.small g (subst (λ (zs : List ExprTree). Has zs g) (sym whole) i));
+        reduces = rw (← whole) s.reduces;
+        small = all_small o es (λ g i. s.small g (rw whole i));
       }
 
   -- the first k parts, and the next
@@ -238,7 +238,7 @@ module _ (q : QueryTree) (lets : List Marked) (known : AreCompiled q lets) where
     has_two = two_parts V S N o es asked.sound_expr
 
     taken_has : (e : ExprTree) → Has (take k es) e → Has es e
-    taken_has e h = subst (λ (zs : List ExprTree). Has zs e) (take-append-drop k es) (Has-append_left (take k es) (drop k es) e h)
+    taken_has e h = rw (← take-append-drop k es) (Has-append_left (take k es) (drop k es) e h)
 
     taken_asked : (e : ExprTree) → Has (take k es) e → IsAsked q N e
     taken_asked e h = asked_part o q N es e (taken_has e h) asked
@@ -246,15 +246,15 @@ module _ (q : QueryTree) (lets : List Marked) (known : AreCompiled q lets) where
     prefix_whole : IsWhole (automaton_of L (all_of o (take k es))).graph
     prefix_whole =
         let f = first_taken es k l (omega (arith, has_two)) in
-        subst (λ (zs : List ExprTree). IsWhole (automaton_of L (all_of o zs)).graph) (sym f.2)
-        (whole_all o f.0 f.1 (λ e h. (shape e (taken_asked e (subst (λ (zs : List ExprTree). Has zs e) (sym f.2) h))).whole))
+        rw f.2
+        (whole_all o f.0 f.1 (λ e h. (shape e (taken_asked e (rw f.2 h))).whole))
 
     -- names of the query
     prefix_names : HasNamesOf (NameOf q) (automaton_of L (all_of o (take k es)))
     prefix_names =
         let f = first_taken es k l (omega (arith, has_two)) in
-        subst (λ (zs : List ExprTree). HasNamesOf (NameOf q) (automaton_of L (all_of o zs))) (sym f.2)
-        (names_all o (NameOf q) f.0 f.1 (λ e h. part_names e (taken_asked e (subst (λ (zs : List ExprTree). Has zs e) (sym f.2) h))))
+        rw f.2
+        (names_all o (NameOf q) f.0 f.1 (λ e h. part_names e (taken_asked e (rw f.2 h))))
 
     -- the first parts and the next have few names together
     can_combine : (y : ExprTree) → Has es y → HaveFewNames (automaton_of L (all_of o (take k es))) (automaton_of L y)
@@ -279,8 +279,8 @@ module _ (q : QueryTree) (lets : List Marked) (known : AreCompiled q lets) where
 
     pub combine : HaveFewNames a p
     combine =
-        subst (λ (ns : List VarName). length (all_names ns p.names) ≤ MOST_VARIABLES) (sym so_far.reduces.0)
-        (subst (λ (ns : List VarName). length (all_names A.names ns) ≤ MOST_VARIABLES) (sym part.reduces.0) (can_combine o es asked k l y y_has))
+        rw so_far.reduces.0
+        (rw part.reduces.0 (can_combine o es asked k l y y_has))
 
     module _ (marked : IsMarked a × IsMarked p) where
       reduce : ReducesMarked (of_two o a p) (of_two o A B)
@@ -290,7 +290,7 @@ module _ (q : QueryTree) (lets : List Marked) (known : AreCompiled q lets) where
 
       pub so_far_next : (c : Marked) → ReducesMarked c (of_two o a p) → SoFar q N o es (k + 1) c
       so_far_next c r = record {
-        reduces = subst (λ (M : Marked). ReducesMarked c M) (sym (grown L o es k y l at))
+        reduces = rw (grown L o es k y l at)
             (r.0 ∙ reduce.0, reduct_of_reduct c.graph (of_two o a p).graph (of_two o A B).graph r.1 reduce.1);
         small = small_more es k y at so_far.small part.small;
       }

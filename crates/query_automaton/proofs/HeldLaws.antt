@@ -35,8 +35,8 @@ use Rattle.query_automaton.proofs.PartLaws.{join_part_of, large_part, union_part
 -- a part of several has one fewer that wait
 pub waits_part : (o : Operation) (es : List ExprTree) (e : ExprTree) → Has es e → 1 + waits e ≤ waits (all_of o es)
 waits_part o [] e h = absurd h
-waits_part Union (x ∷ es) e (inl i) = subst (λ (y : ExprTree). 1 + waits y ≤ waits (union_all (x ∷ es))) i (le-max_left (1 + waits x) (waits (union_all es)))
-waits_part Join (x ∷ es) e (inl i) = subst (λ (y : ExprTree). 1 + waits y ≤ waits (join_all (x ∷ es))) i (le-max_left (1 + waits x) (waits (join_all es)))
+waits_part Union (x ∷ es) e (inl i) = rw (← i) (le-max_left (1 + waits x) (waits (union_all es)))
+waits_part Join (x ∷ es) e (inl i) = rw (← i) (le-max_left (1 + waits x) (waits (join_all es)))
 waits_part Union (x ∷ es) e (inr h) = omega (arith, waits_part Union es e h, le-max_right (1 + waits x) (waits (union_all es)))
 waits_part Join (x ∷ es) e (inr h) = omega (arith, waits_part Join es e h, le-max_right (1 + waits x) (waits (join_all es)))
 
@@ -45,7 +45,7 @@ pub waits_let : (lets : List (VarName × ExprTree)) (k : ℕ) (l : VarName × Ex
 waits_let [] k l at = absurd (cc)
 waits_let (x ∷ lets) zero l at =
     let same : x ≡ l = cc in
-    subst (λ (y : VarName × ExprTree). waits y.1 ≤ waits_of_lets (x ∷ lets)) same (le-max_left (waits x.1) (waits_of_lets lets))
+    rw (← same) (le-max_left (waits x.1) (waits_of_lets lets))
 waits_let (x ∷ lets) (suc k) l at = omega (arith, waits_let lets k l at, le-max_right (waits x.1) (waits_of_lets lets))
 
 -- ---- parts of the first parts
@@ -246,7 +246,7 @@ module _ (L : ℕ → Marked) where
 
   pub cause_project : (held effort after cost : ℕ) (names : List VarName) (e : ExprTree) → ((most : ℕ) → ArePartsWithin L e most → cost ≤ steps_of most) → Takes L e effort after →
       (fault : CompileFault) → IsTold (λ f. f ≡ OutOfMemory) 0 after cost fault → HasCauseOf L held effort (project names e) fault
-  cause_project held effort after cost names e costs takes (Size fault) h = subst (λ (f : SizeFault). HasLargePartOf L (project names e) f) (sym h) tt
+  cause_project held effort after cost names e costs takes (Size fault) h = rw h tt
   cause_project held effort after cost names e costs takes (Held count) h = absurd h
   cause_project held effort after cost names e costs takes (Ends count) h = absurd (omega (arith, h.0, h.1))
   cause_project held effort after cost names e costs takes Spent h = λ most within.
@@ -284,7 +284,7 @@ module _ (q : QueryTree) (held effort : ℕ) (k : ℕ) (few : k ≤ length q.let
     pub kept_fault : (fault : CompileFault) → IsHoldFault (held + size a.graph) fault → HasCause q fault
     kept_fault Spent h = absurd h
     kept_fault (Ends count) h = absurd h
-    kept_fault (Size fault) h = subst (λ (f : _). HasLargePart q f) (sym h) (inr tt)
+    kept_fault (Size fault) h = rw h (inr tt)
     kept_fault (Held count) h = (
       h.0,
       λ most within.

@@ -63,29 +63,29 @@ module _ (first b : BegunQuery) (same : b.query ≡ first.query) (k : ℕ) (long
   pub let_cause : (fault : CompileFault) → HasCauseIn b effort l.1 fault → HasCause Q fault
   let_cause (Size fault) h = let_fault first b same k long known l at fault h
   let_cause (Held count) h =
-      let here = subst (λ (q : Query). HasCauseOf (of_lets (query_of q).lets (length b.lets)) b.held effort l.1 (Held count)) same h in
-      held_of_let Q b.held effort k few so_far l at count (subst (λ n. HasCauseOf (of_lets Q.lets n) b.held effort l.1 (Held count)) long here)
+      let here = rw same at h in
+      held_of_let Q b.held effort k few so_far l at count (rw long at here)
   let_cause (Ends count) h =
-      let here = subst (λ (q : Query). HasCauseOf (of_lets (query_of q).lets (length b.lets)) b.held effort l.1 (Ends count)) same h in
-      let one = subst (λ n. HasCauseOf (of_lets Q.lets n) b.held effort l.1 (Ends count)) long here in
+      let here = rw same at h in
+      let one = rw long at here in
       (one.0, λ most within. one.1 most (within.0 k l at))
   let_cause Spent h = λ most within.
-      let here = subst (λ (q : Query). HasCauseOf (of_lets (query_of q).lets (length b.lets)) b.held effort l.1 Spent) same h in
-      let one = subst (λ n. HasCauseOf (of_lets Q.lets n) b.held effort l.1 Spent) long here in
+      let here = rw same at h in
+      let one = rw long at here in
       step_le MOST_STEPS effort (steps_of_lets most (take k Q.lets)) (steps_within most l.1) (steps_of_query most Q) (takes most within) (one most (within.0 k l at))
       (omega (arith, lets_more most Q.lets k l at, lets_first most (k + 1) Q.lets))
 
   -- after the let
   pub let_takes : (after : ℕ) → TakesIn b l.1 effort after → TakesLets Q (k + 1) after
   let_takes after h most within =
-      let here = subst (λ (q : Query). Takes (of_lets (query_of q).lets (length b.lets)) l.1 effort after) same h in
-      let one = subst (λ n. Takes (of_lets Q.lets n) l.1 effort after) long here in
+      let here = rw same at h in
+      let one = rw long at here in
       step_more MOST_STEPS effort after (steps_of_lets most (take k Q.lets)) (steps_within most l.1) (steps_of_lets most (take (k + 1) Q.lets)) (takes most within)
       (one most (within.0 k l at)) (omega (arith, lets_more most Q.lets k l at))
 
   module _ (a : Marked) (made : IsCompiledIn b l.1 a) (marked : IsMarked a) where
     made_here : IsCompiledFrom Q k l.1 a
-    made_here = subst (λ n. IsCompiledFrom Q n l.1 a) long (subst (λ (q : Query). IsCompiledFrom (query_of q) (length b.lets) l.1 a) same made)
+    made_here = rw (← long) (rw (← same) made)
 
     pub let_kept : (fault : CompileFault) → IsHoldFault (b.held + size a.graph) fault → HasCause Q fault
     let_kept fault h = kept_fault Q b.held effort k few so_far l at a made_here marked fault h
@@ -104,15 +104,15 @@ module _ (q : Query) (b : BegunQuery) (same : b.query ≡ q) (long : length b.le
   pub body_cause : (fault : CompileFault) → HasCauseIn b effort (query_of q).body fault → HasCause (query_of q) fault
   body_cause (Size fault) h = body_fault q b same long fault h
   body_cause (Held count) h =
-      let here = subst (λ (x : Query). HasCauseOf (of_lets (query_of x).lets (length b.lets)) b.held effort (query_of q).body (Held count)) same h in
-      held_of_body (query_of q) b.held effort N (omega arith) so_far refl count (subst (λ n. HasCauseOf (of_lets (query_of q).lets n) b.held effort (query_of q).body (Held count)) long here)
+      let here = rw same at h in
+      held_of_body (query_of q) b.held effort N (omega arith) so_far refl count (rw long at here)
   body_cause (Ends count) h =
-      let here = subst (λ (x : Query). HasCauseOf (of_lets (query_of x).lets (length b.lets)) b.held effort (query_of q).body (Ends count)) same h in
-      let one = subst (λ n. HasCauseOf (of_lets (query_of q).lets n) b.held effort (query_of q).body (Ends count)) long here in
+      let here = rw same at h in
+      let one = rw long at here in
       (one.0, λ most within. one.1 most within.1)
   body_cause Spent h = λ most within.
-      let here = subst (λ (x : Query). HasCauseOf (of_lets (query_of x).lets (length b.lets)) b.held effort (query_of q).body Spent) same h in
-      let one = subst (λ n. HasCauseOf (of_lets (query_of q).lets n) b.held effort (query_of q).body Spent) long here in
+      let here = rw same at h in
+      let one = rw long at here in
       step_le MOST_STEPS effort (steps_of_lets most (query_of q).lets) (steps_within most (query_of q).body) (steps_of_query most (query_of q)) (takes most within)
       (one most within.1) (omega arith)
 
@@ -123,7 +123,7 @@ pub atom_within : (L : ℕ → Marked) (u : AtomTree) (whole : Marked) → Ascen
     Reduces whole.graph (atom_automaton whole.names u) → IsMarked whole → HasSmallAtoms (atom u) → (most : ℕ) → ArePartsWithin L (atom u) most → size whole.graph ≤ most
 atom_within L u whole up all reduces marked small most within =
     let same = atom_names u whole.names up all in
-    let made : Reduces whole.graph (of_atom u).graph = subst (λ (ns : List VarName). Reduces whole.graph (atom_automaton ns u)) same reduces in
+    let made : Reduces whole.graph (of_atom u).graph = rw (← same) reduces in
     omega (arith, reduced_size whole (of_atom u) marked made, part_size L most (atom u) within small)
 
 pub atom_takes : (L : ℕ → Marked) (u : AtomTree) (before after cost : ℕ) → before ≤ after + 64 * cost → ((most : ℕ) → ArePartsWithin L (atom u) most → cost ≤ most) → Takes L (atom u) before after
@@ -153,7 +153,7 @@ join_refused A B before after le join.Spent h spent = omega (arith, le, spent)
 
 pub joined_size : (A B J : Marked) → IsJoinOf A B J → IsMarked J → size J.graph ≤ size (of_join A B).graph
 joined_size A B J of marked =
-    reduced_size J (of_join A B) marked (subst (λ (ns : List VarName). Reduces J.graph (join_of (agree_on A.names B.names ns) (joined A.names B.names ns) A.graph B.graph)) of.names of.reduct)
+    reduced_size J (of_join A B) marked (rw (← of.names) of.reduct)
 
 -- ---- a difference
 
@@ -168,7 +168,7 @@ minus_refused A B before after le minus.Spent within cause = omega (arith, le, c
 pub united_size : (A B taken u : Marked) → taken ≡ A → u.names ≡ all_names taken.names B.names → Reduces u.graph (union_over taken B u.names) → IsMarked u →
     size u.graph ≤ size (of_union A B).graph
 united_size A B taken u is names reduct marked =
-    reduced_size u (of_union A B) marked (subst (λ (a : Marked). Reduces u.graph (of_union a B).graph) is (united_made taken B u names reduct).1)
+    reduced_size u (of_union A B) marked (rw (← is) (united_made taken B u names reduct).1)
 
 -- what is left where an operation is refused for want of steps
 pub told_spent : (P : SizeFault → Type 0) (ends before most : ℕ) → before ≤ most → (fault : CompileFault) → fault ≡ Spent → IsTold P ends before most fault

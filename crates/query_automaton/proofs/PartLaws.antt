@@ -29,22 +29,22 @@ module _ (L : ℕ → Marked) where
   -- a part of a part
   union_step_part : (xs : List ExprTree) (A : Marked) (e : ExprTree) (n : PartNumbers) → Has xs e → HasPart L e n → HasUnionStep L A (union_all xs) n
   union_step_part [] A e n h p = absurd h
-  union_step_part (x ∷ xs) A e n (inl i) p = inl (subst (λ w. HasPart L w n) (sym i) p)
+  union_step_part (x ∷ xs) A e n (inl i) p = inl (rw i p)
   union_step_part (x ∷ xs) A e n (inr h) p = inr (inr (union_step_part xs (of_union A (automaton_of L x)) e n h p))
 
   pub union_part_of : (es : List ExprTree) (e : ExprTree) (n : PartNumbers) → Has es e → HasPart L e n → HasPart L (union_all es) n
   union_part_of [] e n h p = absurd h
-  union_part_of (x ∷ es) e n (inl i) p = inl (subst (λ w. HasPart L w n) (sym i) p)
+  union_part_of (x ∷ es) e n (inl i) p = inl (rw i p)
   union_part_of (x ∷ es) e n (inr h) p = inr (union_step_part es (automaton_of L x) e n h p)
 
   join_step_part : (xs : List ExprTree) (A : Marked) (e : ExprTree) (n : PartNumbers) → Has xs e → HasPart L e n → HasJoinStep L A (join_all xs) n
   join_step_part [] A e n h p = absurd h
-  join_step_part (x ∷ xs) A e n (inl i) p = inl (subst (λ w. HasPart L w n) (sym i) p)
+  join_step_part (x ∷ xs) A e n (inl i) p = inl (rw i p)
   join_step_part (x ∷ xs) A e n (inr h) p = inr (inr (join_step_part xs (of_join A (automaton_of L x)) e n h p))
 
   pub join_part_of : (es : List ExprTree) (e : ExprTree) (n : PartNumbers) → Has es e → HasPart L e n → HasPart L (join_all es) n
   join_part_of [] e n h p = absurd h
-  join_part_of (x ∷ es) e n (inl i) p = inl (subst (λ w. HasPart L w n) (sym i) p)
+  join_part_of (x ∷ es) e n (inl i) p = inl (rw i p)
   join_part_of (x ∷ es) e n (inr h) p = inr (join_step_part es (automaton_of L x) e n h p)
 
   -- a step is a part

@@ -55,7 +55,7 @@ module _ (u : AtomTree) where
       c.names ≡ a.names → Reduces c.graph a.graph → ReducesMarked c (of_atom u)
   atom_made a c up all made names left =
       let same = atom_names a.names up all in
-      (names ∙ same, reduct_of_reduct c.graph a.graph (of_atom u).graph left (subst (λ (ns : List VarName). Reduces a.graph (atom_automaton ns u)) same made))
+      (names ∙ same, reduct_of_reduct c.graph a.graph (of_atom u).graph left (rw (← same) made))
 
   abbrev counted : PartNumbers
   counted = record { states = count_states u; ways = count_ways u; ends = count_ends u }
@@ -82,7 +82,7 @@ module _ (q : QueryTree) (lets : List Marked) (known : AreCompiled q lets) (keep
     reduces = (
       names,
       reduct_of_reduct p.graph (remarked (left_of E.names keep) a.graph) (remarked (left_of E.names keep) E.graph)
-          (subst (λ (ns : List VarName). Reduces p.graph (remarked (left_of ns keep) a.graph)) part.reduces.0 reduces)
+          (rw (← part.reduces.0) reduces)
           (reduct_of_projection a.graph E.graph (left_of E.names keep) part.reduces.1),
     );
     small = part.small;
@@ -95,8 +95,8 @@ kept_all names a marked up vp sub len =
     let same = all_kept names a.names up vp sub len in
     let nothing = keeping_law a.names a.graph (ascending-distinct a.names vp) (record { ways = marked.way_marks; stops = marked.stop_marks }) in (
       sym same,
-      subst (λ (ns : List VarName). Reduces a.graph (remarked (left_of a.names ns) a.graph)) (sym same)
-          (subst (λ (G : Automaton). Reduces a.graph G) (sym nothing) (reduct_of_itself a.graph marked.whole)),
+      rw same
+          (rw nothing (reduct_of_itself a.graph marked.whole)),
     )
 
 -- ---- lets
@@ -137,13 +137,13 @@ one_more q lets l a at known this = record { few = few; reduce = reduce; small =
 
     reduce : (k : ℕ) (b : Marked) → slice_get (lets ++ a ∷ []) k ≡ Some b → ReducesMarked b (of_lets q.lets (length (lets ++ a ∷ [])) k)
     reduce k b there =
-        subst (λ n. ReducesMarked b (of_lets q.lets n k)) (sym long) (
+        rw long (
         elim (pushed_at lets a b k there) as (λ _. ReducesMarked b (of_lets q.lets (suc (length lets)) k)) [
-          | inl c ↦ subst (λ (M : Marked). ReducesMarked b M) (sym (let_before q.lets (length lets) k c.0)) (known.reduce k b c.1)
+          | inl c ↦ rw (let_before q.lets (length lets) k c.0) (known.reduce k b c.1)
           | inr c ↦
-              subst (λ n. ReducesMarked b (of_lets q.lets (suc (length lets)) n)) (sym c.0)
-              (subst (λ (M : Marked). ReducesMarked b M) (sym (let_here q.lets (length lets) l at))
-              (subst (λ (r : Marked). ReducesMarked r (automaton_of (of_lets q.lets (length lets)) l.1)) c.1 this.reduces))
+              rw c.0
+              (rw (let_here q.lets (length lets) l at)
+              (rw (← c.1) this.reduces))
         ])
 
     small : (k : ℕ) (m : VarName × ExprTree) → k < length (lets ++ a ∷ []) → slice_get q.lets k ≡ Some m → HasSmallAtoms m.1
@@ -154,7 +154,7 @@ one_more q lets l a at known this = record { few = few; reduce = reduce; small =
               let same : k ≡ length lets = omega (arith, b, long, le) in
               let one : Some m ≡ Some l = sym e ∙ (ap (λ n. slice_get q.lets n) same ∙ at) in
               let eq : l ≡ m = cc in
-              subst (λ (x : VarName × ExprTree). HasSmallAtoms x.1) eq this.small
+              rw (← eq) this.small
         ]
 
 -- the atoms of all lets are small
@@ -175,35 +175,35 @@ module _ (first b : BegunQuery) (same : b.query ≡ first.query) (k : ℕ) (long
     (at : slice_get (query_of first.query).lets k ≡ Some l) where
   pub let_can : IsSound (query_of first.query) → CanCompile b l.1
   let_can sound = record {
-    known = subst (λ (q : Query). AreCompiled (query_of q) b.lets) (sym same) known;
-    asked = subst (λ (q : Query). IsAsked (query_of q) (length b.lets) l.1) (sym same)
-        (subst (λ n. IsAsked (query_of first.query) n l.1) (sym long) (asked_let (query_of first.query) k l sound at));
+    known = rw same known;
+    asked = rw same
+        (rw long (asked_let (query_of first.query) k l sound at));
   }
 
   pub let_fault : (fault : SizeFault) → HasLargePartIn b l.1 fault → HasLargePart (query_of first.query) fault
   let_fault fault h =
-      let here = subst (λ (q : Query). HasLargePartOf (of_lets (query_of q).lets (length b.lets)) l.1 fault) same h in
-      inl (k, l, at, subst (λ n. HasLargePartOf (of_lets (query_of first.query).lets n) l.1 fault) long here)
+      let here = rw same at h in
+      inl (k, l, at, rw (← long) here)
 
   pub let_more : (a : Marked) → IsCompiledIn b l.1 a → AreCompiled (query_of first.query) (b.lets ++ a ∷ [])
   let_more a made =
       one_more (query_of first.query) b.lets l a (ap (λ n. slice_get (query_of first.query).lets n) long ∙ at) known
-      (subst (λ (q : Query). IsCompiledFrom (query_of q) (length b.lets) l.1 a) same made)
+      (rw (← same) made)
 
 -- ---- the body, after all lets
 
 module _ (q : Query) (b : BegunQuery) (same : b.query ≡ q) (long : length b.lets ≡ length (query_of q).lets) where
   pub body_can : AreCompiled (query_of q) b.lets → IsSound (query_of q) → CanCompile b (query_of q).body
   body_can known sound = record {
-    known = subst (λ (x : Query). AreCompiled (query_of x) b.lets) (sym same) known;
-    asked = subst (λ (x : Query). IsAsked (query_of x) (length b.lets) (query_of q).body) (sym same)
-        (subst (λ n. IsAsked (query_of q) n (query_of q).body) (sym long) (asked_body (query_of q) sound));
+    known = rw same known;
+    asked = rw same
+        (rw long (asked_body (query_of q) sound));
   }
 
   pub body_fault : (fault : SizeFault) → HasLargePartIn b (query_of q).body fault → HasLargePart (query_of q) fault
   body_fault fault h =
-      let here = subst (λ (x : Query). HasLargePartOf (of_lets (query_of x).lets (length b.lets)) (query_of q).body fault) same h in
-      inr (subst (λ n. HasLargePartOf (of_lets (query_of q).lets n) (query_of q).body fault) long here)
+      let here = rw same at h in
+      inr (rw (← long) here)
 
   pub body_made : (body : Marked) → IsCompiledIn b (query_of q).body body → IsCompiledFrom (query_of q) (length b.lets) (query_of q).body body
-  body_made body made = subst (λ (x : Query). IsCompiledFrom (query_of x) (length b.lets) (query_of q).body body) same made
+  body_made body made = rw same at made

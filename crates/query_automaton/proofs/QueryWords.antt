@@ -219,7 +219,7 @@ words_of_reduct q s A r =
     let B = of_query q in
     let of = (query_words q s).0 in
     let names : B.names ≡ A.names = sym r.0 in
-    let same : AcceptsAnswersOf q (record { names = A.names; graph = B.graph }) = subst (λ (ns : List VarName). AcceptsAnswersOf q (record { names = ns; graph = B.graph })) names of in (
+    let same : AcceptsAnswersOf q (record { names = A.names; graph = B.graph }) = rw (← names) of in (
       same.0,
       λ d bytes w. (
         λ h. (same.1 d bytes w).0 ((reduct_accepts A.graph B.graph r.1 d w).0 h),

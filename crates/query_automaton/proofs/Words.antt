@@ -191,7 +191,7 @@ module _ (d : List ℕ) (P Q : VarName → Type 0) (A B : Mapping → Type 0) (M
     where
       go : (o : Option Span) → m x ≡ o → ForSome o (λ (s : Span). s.end ≤ length d)
       go None at = λ s e. absurd (cc)
-      go (Some s) at = λ t e. let same : s ≡ t = cc in subst (λ (u : Span). u.end ≤ length d) same (h.ends m c x s at)
+      go (Some s) at = λ t e. let same : s ≡ t = cc in rw (← same) (h.ends m c x s at)
 
   -- what the words of the parts are together
   joined_row : (n1 n2 : Mapping) (p : ℕ) →
@@ -247,8 +247,8 @@ module _ (d : List ℕ) (P Q : VarName → Type 0) (A B : Mapping → Type 0) (M
       let u = (a.words r.0).0 r.2 in
       let v = (b.words r.1).0 r.3 in
       let agreeing : (p : ℕ) → p ≤ length d → IsTrue (agree_on M.names N.names All (block (row_of M.names u.0) p) (block (row_of N.names v.0) p)) =
-      λ p l. subst (λ k. IsTrue (agree_on M.names N.names All (block (row_of M.names u.0) p) k)) (v.2 p l)
-      (subst (λ k. IsTrue (agree_on M.names N.names All k (r.1 p))) (u.2 p l) (r.4 p l).0) in
+      λ p l. rw (← v.2 p l)
+      (rw (← u.2 p l) (r.4 p l).0) in
       let shared = (agree_where u.0 v.0 u.1 v.1).0 agreeing in (
         merged M.names u.0 v.0,
         (u.0, v.0, merged_first u.0 v.0 u.1, u.1, merged_second u.0 v.0 v.1 shared, v.1, merged_outside u.0 v.0 v.1),
@@ -332,7 +332,7 @@ module _ (d : List ℕ) (P Q : VarName → Type 0) (A B : Mapping → Type 0) (M
       by : (c : Bool) → has_name M.names x ≡ c → n x ≡ m x
       by true at =
           let i = Has-list_any M.names x at in
-          sym ((agree_where d P Q A B M N a b m n g h).0 agreeing x i (subst (λ (ns : List VarName). Has ns x) names_same i))
+          sym ((agree_where d P Q A B M N a b m n g h).0 agreeing x i (rw (← names_same) i))
       by false at =
           let out : P x → ⊥ = λ p. let e : true ≡ false = sym (list_any-Has M.names x ((a.names x).1 p)) ∙ at in absurd (cc) in
           b.absent n h x (λ q. out ((same x).1 q)) ∙ sym (a.absent m g x out)

@@ -19,34 +19,33 @@ use Rattle.query_automaton.proofs.QueryWords.{words_of_reduct}
 use Rattle.query_automaton.proofs.compiled.compile_with_cause.Goals as goal
 
 pub compile_lets-requires-clause-sound : goal.compile_lets-requires-clause-sound
-compile_lets-requires-clause-sound c = subst (λ (q : Query). IsSound (query_of q)) (sym c.new-compiler.ensures.query) c.requires
+compile_lets-requires-clause-sound c = rw c.new-compiler.ensures.query c.requires
 
 pub returns-in_err-compile_lets-clause-fault : goal.returns-in_err-compile_lets-clause-fault
 returns-in_err-compile_lets-clause-fault c =
     let fault = c.in_err-compile_lets.field-0.0 in
     handed_on (HasCause (query_of c.args.query.now)) c.from_residual.result fault c.from_residual.ensures.1
-    (subst (λ (q : Query). HasCause (query_of q) fault) c.new-compiler.ensures.query c.in_err-compile_lets.ensures.fault)
+    (rw (← c.new-compiler.ensures.query) c.in_err-compile_lets.ensures.fault)
 
 pub expression-requires : goal.expression-requires
 expression-requires c =
     let q = c.args.query.now in
     let b = c.compile_lets.new.self in
     let at : c.new-compiler.result.query ≡ q = c.new-compiler.ensures.query in
-    let long : length b.lets ≡ length (query_of q).lets = subst (λ (x : Query). length b.lets ≡ length (query_of x).lets) at c.in_ok-compile_lets.ensures.long in
-    body_can q b (c.in_ok-compile_lets.ensures.query ∙ at) long (subst (λ (x : Query). AreCompiled (query_of x) b.lets) at c.in_ok-compile_lets.ensures.made) c.requires
+    let long : length b.lets ≡ length (query_of q).lets = rw (← at) c.in_ok-compile_lets.ensures.long in
+    body_can q b (c.in_ok-compile_lets.ensures.query ∙ at) long (rw (← at) c.in_ok-compile_lets.ensures.made) c.requires
 
 pub returns-in_err-body-clause-fault : goal.returns-in_err-body-clause-fault
 returns-in_err-body-clause-fault c =
     let q = c.args.query.now in
     let b = c.compile_lets.new.self in
     let at : c.new-compiler.result.query ≡ q = c.new-compiler.ensures.query in
-    let long : length b.lets ≡ length (query_of q).lets = subst (λ (x : Query). length b.lets ≡ length (query_of x).lets) at c.in_ok-compile_lets.ensures.long in
+    let long : length b.lets ≡ length (query_of q).lets = rw at at c.in_ok-compile_lets.ensures.long in
     let fault = c.in_err-body.field-0.0 in
     let so_far : (most : ℕ) → IsWithin (query_of q) most → b.held ≤ length (query_of q).lets * most =
-    subst (λ (x : Query). (most : ℕ) → IsWithin (query_of x) most → b.held ≤ length (query_of x).lets * most) at c.in_ok-compile_lets.ensures.held in
+    rw at at c.in_ok-compile_lets.ensures.held in
     let takes : (most : ℕ) → IsWithin (query_of q) most → MOST_STEPS ≤ c.compile_lets.new.effort + steps_of_lets most (query_of q).lets =
-    subst (λ (x : Query). (most : ℕ) → IsWithin (query_of x) most → MOST_STEPS ≤ c.compile_lets.new.effort + steps_of_lets most (query_of x).lets) at
-    c.in_ok-compile_lets.ensures.steps in
+    rw at at c.in_ok-compile_lets.ensures.steps in
     handed_on (HasCause (query_of q)) c.from_residual-in_err-body.result fault c.from_residual-in_err-body.ensures.1
     (body_cause q b (c.in_ok-compile_lets.ensures.query ∙ at) long so_far c.compile_lets.new.effort takes fault c.in_err-body.ensures.fault)
 
@@ -64,7 +63,7 @@ invariant_of-result c =
     let q = c.args.query.now in
     let b = c.compile_lets.new.self in
     let at : c.new-compiler.result.query ≡ q = c.new-compiler.ensures.query in
-    let long : length b.lets ≡ length (query_of q).lets = subst (λ (x : Query). length b.lets ≡ length (query_of x).lets) at c.in_ok-compile_lets.ensures.long in
+    let long : length b.lets ≡ length (query_of q).lets = rw (← at) c.in_ok-compile_lets.ensures.long in
     is_compiled (query_of q) c.requires (length b.lets) long
     c.in_ok-body.body (body_made q b (c.in_ok-compile_lets.ensures.query ∙ at) long c.in_ok-body.body c.in_ok-body.ensures.made) c.in_ok-take.field-0 c.in_ok-take.ensures
     c.in_ok-automaton.automaton c.in_ok-automaton.ensures.names c.in_ok-automaton.ensures.reduct
@@ -74,7 +73,7 @@ returns-clause-made c =
     let q = c.args.query.now in
     let b = c.compile_lets.new.self in
     let at : c.new-compiler.result.query ≡ q = c.new-compiler.ensures.query in
-    let long : length b.lets ≡ length (query_of q).lets = subst (λ (x : Query). length b.lets ≡ length (query_of x).lets) at c.in_ok-compile_lets.ensures.long in
+    let long : length b.lets ≡ length (query_of q).lets = rw (← at) c.in_ok-compile_lets.ensures.long in
     (is_compiled (query_of q) c.requires (length b.lets) long
     c.in_ok-body.body (body_made q b (c.in_ok-compile_lets.ensures.query ∙ at) long c.in_ok-body.body c.in_ok-body.ensures.made) c.in_ok-take.field-0 c.in_ok-take.ensures
     c.in_ok-automaton.automaton c.in_ok-automaton.ensures.names c.in_ok-automaton.ensures.reduct).reduces
@@ -84,7 +83,7 @@ returns-clause-words c =
     let q = c.args.query.now in
     let b = c.compile_lets.new.self in
     let at : c.new-compiler.result.query ≡ q = c.new-compiler.ensures.query in
-    let long : length b.lets ≡ length (query_of q).lets = subst (λ (x : Query). length b.lets ≡ length (query_of x).lets) at c.in_ok-compile_lets.ensures.long in
+    let long : length b.lets ≡ length (query_of q).lets = rw (← at) c.in_ok-compile_lets.ensures.long in
     (is_compiled (query_of q) c.requires (length b.lets) long
     c.in_ok-body.body (body_made q b (c.in_ok-compile_lets.ensures.query ∙ at) long c.in_ok-body.body c.in_ok-body.ensures.made) c.in_ok-take.field-0 c.in_ok-take.ensures
     c.in_ok-automaton.automaton c.in_ok-automaton.ensures.names c.in_ok-automaton.ensures.reduct).words
@@ -94,6 +93,6 @@ returns-clause-small c =
     let q = c.args.query.now in
     let b = c.compile_lets.new.self in
     let at : c.new-compiler.result.query ≡ q = c.new-compiler.ensures.query in
-    let long : length b.lets ≡ length (query_of q).lets = subst (λ (x : Query). length b.lets ≡ length (query_of x).lets) at c.in_ok-compile_lets.ensures.long in
-    let made = subst (λ (x : Query). AreCompiled (query_of x) b.lets) at c.in_ok-compile_lets.ensures.made in
+    let long : length b.lets ≡ length (query_of q).lets = rw (← at) c.in_ok-compile_lets.ensures.long in
+    let made = rw at at c.in_ok-compile_lets.ensures.made in
     (λ l h. all_lets_small (query_of q) b.lets made long l h, c.in_ok-body.ensures.made.small)

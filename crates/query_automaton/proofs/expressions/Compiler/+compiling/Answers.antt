@@ -37,7 +37,7 @@ expression-returns-in_ok-named-in-Named-clause-made t c =
     let k = c.in-Named.k in
     let e = ap expr_of c.in-Named.is ∙ expr_of-Named k in
     let a = c.in_ok-named-in-Named.field-0 in
-    subst (λ (w : ExprTree). IsCompiledIn b w a) (sym e) (record { reduces = c.requires.known.reduce k a c.in_ok-named-in-Named.ensures; small = tt })
+    rw e (record { reduces = c.requires.known.reduce k a c.in_ok-named-in-Named.ensures; small = tt })
 
 pub expression-projected-requires : goal.expression-projected-requires
 expression-projected-requires t c =
@@ -58,7 +58,7 @@ expression-returns-in_ok-projected-in-Project-clause-made t c =
     let inner = c.in_ok-inner-in-Project in
     let can = subst (CanCompile b) e c.requires in
     let p = c.in_ok-projected-in-Project in
-    subst (λ (w : ExprTree). IsCompiledIn b w p.field-0) (sym e)
+    rw e
     (projected q b.lets can.known names (expr_of c.deref.result.now) can.asked inner.inner inner.ensures.made p.field-0 p.ensures.names p.ensures.reduct)
 
 pub expression-returns-in_err-inner-in-Project-clause-fault : goal.expression-returns-in_err-inner-in-Project-clause-fault
@@ -70,7 +70,7 @@ expression-returns-in_err-inner-in-Project-clause-fault t c =
     let e = ap expr_of c.in-Project.is ∙ (expr_of-Project names c.in-Project.sub ∙ ap (λ x. project names (expr_of x)) (sym c.deref.ensures)) in
     let fault = c.in_err-inner-in-Project.field-0.0 in
     handed_on (HasCauseIn b E (expr_of c.args.expr.now)) c.from_residual-in_err-inner-in-Project.result fault c.from_residual-in_err-inner-in-Project.ensures.1
-    (subst (λ (w : ExprTree). HasCauseIn b E w fault) (sym e)
+    (rw e
     (cause_inside (of_lets q.lets (length b.lets)) b.held E names (expr_of c.deref.result.now) fault c.in_err-inner-in-Project.ensures.fault))
 
 pub expression-returns-in_ok-named-in-Named-clause-steps : goal.expression-returns-in_ok-named-in-Named-clause-steps
@@ -85,7 +85,7 @@ expression-returns-in_ok-projected-in-Project-clause-steps t c =
     let inner = c.in_ok-inner-in-Project in
     let g = expr_of c.deref.result.now in
     let p = c.in_ok-projected-in-Project in
-    subst (λ (w : ExprTree). TakesIn b w c.args.effort.now c.projected.new.effort) (sym e)
+    rw e
     (λ most within.
     let inside : ArePartsWithin (of_lets q.lets (length b.lets)) g most = λ n h. within n (inl h) in
     step_more c.args.effort.now c.expression.new.effort c.projected.new.effort (steps_within most g) (steps_of most) (steps_of most + steps_within most g) (inner.ensures.steps most inside)
@@ -103,7 +103,7 @@ expression-returns-in_err-projected-in-Project-clause-fault t c =
     let p = c.in_err-projected-in-Project in
     let fault = p.field-0.0 in
     handed_on (HasCauseIn b E (expr_of c.args.expr.now)) c.from_residual-in_err-projected-in-Project.result fault c.from_residual-in_err-projected-in-Project.ensures.1
-    (subst (λ (w : ExprTree). HasCauseIn b E w fault) (sym e)
+    (rw e
     (cause_project (of_lets q.lets (length b.lets)) b.held E c.expression.new.effort (64 * size inner.inner.graph) names g
     (λ most inside. made_cost (size inner.inner.graph) most (compiled_size q (length b.lets) g inner.inner inner.ensures.made p.ensures.marked most inside)) inner.ensures.steps fault p.ensures.fault))
 
@@ -119,7 +119,7 @@ expression-beside-requires t c =
     ap expr_of c.in-Minus.is ∙ (expr_of-Minus c.in-Minus.left c.in-Minus.right ∙ (λ i. minus (expr_of (sym c.deref-in-Minus.ensures i)) (expr_of (sym c.deref-in-Minus-2.ensures i)))) in
     let can = subst (CanCompile b) e c.requires in
     let right : CanCompile b g = record { known = can.known; asked = asked_right q (length b.lets) f g can.asked } in
-    (omega (arith, ap expr_nodes e), subst (λ (d : BegunQuery). CanCompile d g) (sym c.in_ok-first-in-Minus.ensures.same) right)
+    (omega (arith, ap expr_nodes e), rw c.in_ok-first-in-Minus.ensures.same right)
 
 pub expression-returns-in_err-second-in-Minus-clause-fault : goal.expression-returns-in_err-second-in-Minus-clause-fault
 expression-returns-in_err-second-in-Minus-clause-fault t c =
@@ -133,9 +133,9 @@ expression-returns-in_err-second-in-Minus-clause-fault t c =
     let L = of_lets q.lets (length b.lets) in
     let first = c.in_ok-first-in-Minus.first in
     let fault = c.in_err-second-in-Minus.field-0.0 in
-    let part = subst (λ (d : BegunQuery). HasCauseBeside d first c.expression-in-Minus.new.effort g fault) c.in_ok-first-in-Minus.ensures.same c.in_err-second-in-Minus.ensures.fault in
+    let part = rw c.in_ok-first-in-Minus.ensures.same at c.in_err-second-in-Minus.ensures.fault in
     handed_on (HasCauseIn b E (expr_of c.args.expr.now)) c.from_residual-in_err-second-in-Minus.result fault c.from_residual-in_err-second-in-Minus.ensures.1
-    (subst (λ (w : ExprTree). HasCauseIn b E w fault) (sym e)
+    (rw e
     (cause_right L b.held E c.expression-in-Minus.new.effort f g first fault (compiled_size q (length b.lets) f first c.in_ok-first-in-Minus.ensures.made c.in_err-second-in-Minus.ensures.marked)
     c.in_ok-first-in-Minus.ensures.steps part))
 
@@ -207,7 +207,7 @@ expression-returns-in_err-first-in-Minus-clause-fault t c =
     ap expr_of c.in-Minus.is ∙ (expr_of-Minus c.in-Minus.left c.in-Minus.right ∙ (λ i. minus (expr_of (sym c.deref-in-Minus.ensures i)) g)) in
     let fault = c.in_err-first-in-Minus.field-0.0 in
     handed_on (HasCauseIn b E (expr_of c.args.expr.now)) c.from_residual-in_err-first-in-Minus.result fault c.from_residual-in_err-first-in-Minus.ensures.1
-    (subst (λ (w : ExprTree). HasCauseIn b E w fault) (sym e) (cause_left L b.held E f g fault c.in_err-first-in-Minus.ensures.fault))
+    (rw e (cause_left L b.held E f g fault c.in_err-first-in-Minus.ensures.fault))
 
 pub expression-returns-in_ok-differing-in-Minus-clause-steps : goal.expression-returns-in_ok-differing-in-Minus-clause-steps
 expression-returns-in_ok-differing-in-Minus-clause-steps t c =
@@ -221,10 +221,10 @@ expression-returns-in_ok-differing-in-Minus-clause-steps t c =
     let a = c.as_automaton.result.now in
     let p = c.as_automaton-in-Minus.result.now in
     let left = subst (IsCompiledIn b f) (sym c.as_automaton.ensures) c.in_ok-first-in-Minus.ensures.made in
-    let made = subst (λ (d : BegunQuery). IsCompiledIn d g c.in_ok-second-in-Minus.second) c.in_ok-first-in-Minus.ensures.same c.in_ok-second-in-Minus.ensures.made in
+    let made = rw c.in_ok-first-in-Minus.ensures.same at c.in_ok-second-in-Minus.ensures.made in
     let right = subst (IsCompiledIn b g) (sym c.as_automaton-in-Minus.ensures) made in
-    let second = subst (λ (d : BegunQuery). TakesIn d g c.expression-in-Minus.new.effort c.beside.new.effort) c.in_ok-first-in-Minus.ensures.same c.in_ok-second-in-Minus.ensures.steps in
-    subst (λ (w : ExprTree). TakesIn b w c.args.effort.now c.differing.new.effort) (sym e)
+    let second = rw c.in_ok-first-in-Minus.ensures.same at c.in_ok-second-in-Minus.ensures.steps in
+    rw e
     (takes_minus (of_lets q.lets (length b.lets)) c.args.effort.now c.expression-in-Minus.new.effort c.beside.new.effort c.differing.new.effort (minus_steps a p) f g
     c.in_ok-first-in-Minus.ensures.steps second (minus_within q b.lets can.known f g can.asked a p left right c.in_ok-differing-in-Minus.ensures.marked) c.in_ok-differing-in-Minus.ensures.steps)
 
@@ -233,32 +233,32 @@ expression-returns-in_ok-differing-in-Minus-clause-steps t c =
 pub expression-returns-in-Atom-clause-fault : goal.expression-returns-in-Atom-clause-fault
 expression-returns-in-Atom-clause-fault t c =
     let e = ap expr_of c.in-Atom.is ∙ expr_of-Atom c.in-Atom.atom in
-    subst (λ (w : ExprTree). IfErr c.atom.result (HasCauseIn c.args.self.now c.args.effort.now w)) (sym e) c.atom.ensures.fault
+    rw e c.atom.ensures.fault
 
 pub expression-returns-in-Atom-clause-steps : goal.expression-returns-in-Atom-clause-steps
 expression-returns-in-Atom-clause-steps t c =
     let e = ap expr_of c.in-Atom.is ∙ expr_of-Atom c.in-Atom.atom in
-    subst (λ (w : ExprTree). OnOk c.atom.result (TakesIn c.args.self.now w c.args.effort.now c.atom.new.effort)) (sym e) c.atom.ensures.steps
+    rw e c.atom.ensures.steps
 
 pub expression-returns-in-Union-clause-fault : goal.expression-returns-in-Union-clause-fault
 expression-returns-in-Union-clause-fault t c =
     let e = ap expr_of c.in-Union.is ∙ expr_of-Union c.in-Union.parts in
-    subst (λ (w : ExprTree). IfErr c.union.result (HasCauseIn c.args.self.now c.args.effort.now w)) (sym e) c.union.ensures.fault
+    rw e c.union.ensures.fault
 
 pub expression-returns-in-Union-clause-steps : goal.expression-returns-in-Union-clause-steps
 expression-returns-in-Union-clause-steps t c =
     let e = ap expr_of c.in-Union.is ∙ expr_of-Union c.in-Union.parts in
-    subst (λ (w : ExprTree). OnOk c.union.result (TakesIn c.args.self.now w c.args.effort.now c.union.new.effort)) (sym e) c.union.ensures.steps
+    rw e c.union.ensures.steps
 
 pub expression-returns-in-Join-clause-fault : goal.expression-returns-in-Join-clause-fault
 expression-returns-in-Join-clause-fault t c =
     let e = ap expr_of c.in-Join.is ∙ expr_of-Join c.in-Join.parts in
-    subst (λ (w : ExprTree). IfErr c.join.result (HasCauseIn c.args.self.now c.args.effort.now w)) (sym e) c.join.ensures.fault
+    rw e c.join.ensures.fault
 
 pub expression-returns-in-Join-clause-steps : goal.expression-returns-in-Join-clause-steps
 expression-returns-in-Join-clause-steps t c =
     let e = ap expr_of c.in-Join.is ∙ expr_of-Join c.in-Join.parts in
-    subst (λ (w : ExprTree). OnOk c.join.result (TakesIn c.args.self.now w c.args.effort.now c.join.new.effort)) (sym e) c.join.ensures.steps
+    rw e c.join.ensures.steps
 
 -- ---- an expression beside one that waits
 
@@ -272,14 +272,14 @@ beside-returns-clause-fault t c =
     let at : BegunQuery → BegunQuery = λ d. record { query = d.query; lets = d.lets; held = more } in
     let held : more ≤ b.held + size w.graph = omega (arith, c.in_ok-self-inside.ensures.all.0, ap (λ (d : BegunQuery). d.held) c.self.view_is, c.own_size.ensures.most) in
     let made : IfErr c.expression-made.result (HasCauseIn (at b) E e) =
-    subst (λ (d : BegunQuery). IfErr c.expression-made.result (HasCauseIn (at d) E e)) c.self.view_is c.expression-made.ensures.fault in
+    rw (← c.self.view_is) c.expression-made.ensures.fault in
     IfErr-weaker c.expression-made.result (HasCauseIn (at b) E e) (HasCauseBeside b w E e)
     (λ fault h. cause_up (of_lets (query_of b.query).lets (length b.lets)) (b.held + size w.graph) more E E e e fault (λ n p. p) (λ most within. omega (arith, held)) (λ most within le. le) h) made
 
 pub beside-returns-clause-steps : goal.beside-returns-clause-steps
 beside-returns-clause-steps t c =
     let e = expr_of c.args.expr.now in
-    subst (λ (d : BegunQuery). OnOk c.expression-made.result (TakesIn d e c.args.effort.now c.expression-made.new.effort)) c.self.view_is c.expression-made.ensures.steps
+    rw (← c.self.view_is) c.expression-made.ensures.steps
 
 -- ---- a union
 
@@ -325,7 +325,7 @@ pub union-beside-requires : goal.union-beside-requires
 union-beside-requires t c =
     let g = expr_of c.at-in-loop-k.result.now in
     let part = part_can Union c.args.self.now (exprs_of c.args.parts.now) c.loop-k.k g c.at-in-loop-k.ensures c.requires in
-    (omega (arith, part.0), subst (λ (d : BegunQuery). CanCompile d g) (sym c.loop-k.invariant.same) part.1)
+    (omega (arith, part.0), rw c.loop-k.invariant.same part.1)
 
 pub union-returns-in_err-part-clause-fault : goal.union-returns-in_err-part-clause-fault
 union-returns-in_err-part-clause-fault t c =
@@ -339,7 +339,7 @@ union-returns-in_err-part-clause-fault t c =
     handed_on (HasCauseIn b E (union_all es)) c.from_residual-in_err-part.result fault c.from_residual-in_err-part.ensures.1
     (cause_next (of_lets q.lets n) b.held E c.loop-k.effort Union es c.loop-k.k y c.loop-k.all c.at-in-loop-k.ensures fault
     (so_far_size q n Union es c.loop-k.k c.loop-k.all c.loop-k.invariant.so_far c.in_err-part.ensures.marked) c.loop-k.invariant.steps
-    (subst (λ (d : BegunQuery). HasCauseBeside d c.loop-k.all c.loop-k.effort y fault) c.loop-k.invariant.same c.in_err-part.ensures.fault))
+    (rw (← c.loop-k.invariant.same) c.in_err-part.ensures.fault))
 
 pub union-united-requires : goal.union-united-requires
 union-united-requires t c =
@@ -434,7 +434,7 @@ pub join-beside-requires : goal.join-beside-requires
 join-beside-requires t c =
     let g = expr_of c.at-in-loop-k.result.now in
     let part = part_can Join c.args.self.now (exprs_of c.args.parts.now) c.loop-k.k g c.at-in-loop-k.ensures c.requires in
-    (omega (arith, part.0), subst (λ (d : BegunQuery). CanCompile d g) (sym c.loop-k.invariant.same) part.1)
+    (omega (arith, part.0), rw c.loop-k.invariant.same part.1)
 
 pub join-returns-in_err-part-clause-fault : goal.join-returns-in_err-part-clause-fault
 join-returns-in_err-part-clause-fault t c =
@@ -448,7 +448,7 @@ join-returns-in_err-part-clause-fault t c =
     handed_on (HasCauseIn b E (join_all es)) c.from_residual-in_err-part.result fault c.from_residual-in_err-part.ensures.1
     (cause_next (of_lets q.lets n) b.held E c.loop-k.effort Join es c.loop-k.k y c.loop-k.all c.at-in-loop-k.ensures fault
     (so_far_size q n Join es c.loop-k.k c.loop-k.all c.loop-k.invariant.so_far c.in_err-part.ensures.marked) c.loop-k.invariant.steps
-    (subst (λ (d : BegunQuery). HasCauseBeside d c.loop-k.all c.loop-k.effort y fault) c.loop-k.invariant.same c.in_err-part.ensures.fault))
+    (rw (← c.loop-k.invariant.same) c.in_err-part.ensures.fault))
 
 pub join-joined-requires : goal.join-joined-requires
 join-joined-requires t c =
@@ -457,7 +457,7 @@ join-joined-requires t c =
     let es = exprs_of c.args.parts.now in
     let k = c.loop-k.k in
     let y = expr_of c.at-in-loop-k.result.now in
-    let made = subst (λ (d : BegunQuery). IsCompiledIn d y c.in_ok-part.part) c.loop-k.invariant.same c.in_ok-part.ensures.made in
+    let made = rw c.loop-k.invariant.same at c.in_ok-part.ensures.made in
     let part = subst (IsCompiledIn b y) (sym c.as_automaton-in-loop-k.ensures) made in
     combine q b.lets c.requires.known Join es c.requires.asked k c.loop-k.invariant.begun y c.at-in-loop-k.ensures c.as_automaton.result.now
     c.as_automaton-in-loop-k.result.now (subst (SoFar q (length b.lets) Join es k) (sym c.as_automaton.ensures) c.loop-k.invariant.so_far) part
@@ -470,10 +470,10 @@ join-returns-in_err-all-2-clause-fault t c =
     let es = exprs_of c.args.parts.now in
     let k = c.loop-k.k in
     let y = expr_of c.at-in-loop-k.result.now in
-    let made = subst (λ (d : BegunQuery). IsCompiledIn d y c.in_ok-part.part) c.loop-k.invariant.same c.in_ok-part.ensures.made in
+    let made = rw c.loop-k.invariant.same at c.in_ok-part.ensures.made in
     let part = subst (IsCompiledIn b y) (sym c.as_automaton-in-loop-k.ensures) made in
     let fault = c.in_err-all-2.field-0.0 in
-    let takes = subst (λ (d : BegunQuery). TakesIn d y c.loop-k.effort c.beside.new.effort) c.loop-k.invariant.same c.in_ok-part.ensures.steps in
+    let takes = rw c.loop-k.invariant.same at c.in_ok-part.ensures.steps in
     handed_on (HasCauseIn b E (join_all es)) c.from_residual-in_err-all-2.result fault c.from_residual-in_err-all-2.ensures.1
     (two_fault q b.lets c.requires.known Join es c.requires.asked k c.loop-k.invariant.begun y c.at-in-loop-k.ensures c.as_automaton.result.now
     c.as_automaton-in-loop-k.result.now (subst (SoFar q (length b.lets) Join es k) (sym c.as_automaton.ensures) c.loop-k.invariant.so_far) part
@@ -487,9 +487,9 @@ join-loop-k-preserved t c =
     let es = exprs_of c.args.parts.now in
     let k = c.loop-k.k in
     let y = expr_of c.at-in-loop-k.result.now in
-    let made = subst (λ (d : BegunQuery). IsCompiledIn d y c.in_ok-part.part) c.loop-k.invariant.same c.in_ok-part.ensures.made in
+    let made = rw c.loop-k.invariant.same at c.in_ok-part.ensures.made in
     let part = subst (IsCompiledIn b y) (sym c.as_automaton-in-loop-k.ensures) made in
-    let takes = subst (λ (d : BegunQuery). TakesIn d y c.loop-k.effort c.beside.new.effort) c.loop-k.invariant.same c.in_ok-part.ensures.steps in
+    let takes = rw c.loop-k.invariant.same at c.in_ok-part.ensures.steps in
     record {
       begun = omega arith;
       same = c.in_ok-all-2.ensures.same ∙ (c.in_ok-part.ensures.same ∙ c.loop-k.invariant.same);

@@ -53,4 +53,4 @@ returns-clause-made c =
     let made : ReducesMarked trim.field-0 (of_atom a) =
     atom_made a whole trim.field-0 of.names.0 of.names.1
     (rearranged_reduces whole.graph (atom_automaton whole.names a) of.reduct) trim.ensures.names trim.ensures.reduct in
-    record { reduces = subst (λ (m : Marked). ReducesMarked m (of_atom a)) (sym c.in_ok-new.ensures) made; small = of.small }
+    record { reduces = rw c.in_ok-new.ensures made; small = of.small }

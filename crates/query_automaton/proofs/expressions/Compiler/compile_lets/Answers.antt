@@ -22,7 +22,7 @@ loop-k-init c =
       long = omega (arith, ap length c.requires.none);
       held = λ most within. omega (arith, c.requires.nothing);
       steps = λ most within. omega (arith, c.requires.all);
-      made = subst (λ (ls : List Marked). AreCompiled q ls) (sym c.requires.none) (none_compiled q);
+      made = rw c.requires.none (none_compiled q);
     }
 
 pub expression-requires : goal.expression-requires
@@ -31,7 +31,7 @@ expression-requires c =
     let k = c.loop-k.k in
     let l : VarName × ExprTree = (c.at.result.now.0, expr_of c.at.result.now.1) in
     let at : slice_get (query_of first.query).lets k ≡ Some l =
-    subst (λ (q : Query). slice_get (query_of q).lets k ≡ Some l) (ap (λ (d : BegunQuery). d.query) c.self.view_is) c.at.ensures in
+    rw (← (ap (λ (d : BegunQuery). d.query) c.self.view_is)) c.at.ensures in
     let inv = c.loop-k.invariant in
     let_can first c.loop-k.self inv.query k inv.long inv.made l at c.requires.sound
 
@@ -41,7 +41,7 @@ returns-in_err-automaton-clause-fault c =
     let k = c.loop-k.k in
     let l : VarName × ExprTree = (c.at.result.now.0, expr_of c.at.result.now.1) in
     let at : slice_get (query_of first.query).lets k ≡ Some l =
-    subst (λ (q : Query). slice_get (query_of q).lets k ≡ Some l) (ap (λ (d : BegunQuery). d.query) c.self.view_is) c.at.ensures in
+    rw (ap (λ (d : BegunQuery). d.query) c.self.view_is) at c.at.ensures in
     let inv = c.loop-k.invariant in
     let fault = c.in_err-automaton.field-0.0 in
     handed_on (HasCause (query_of first.query)) c.from_residual.result fault c.from_residual.ensures.1
@@ -54,13 +54,13 @@ returns-in_err-keep-clause-fault c =
     let b = c.loop-k.self in
     let l : VarName × ExprTree = (c.at.result.now.0, expr_of c.at.result.now.1) in
     let at : slice_get (query_of first.query).lets k ≡ Some l =
-    subst (λ (q : Query). slice_get (query_of q).lets k ≡ Some l) (ap (λ (d : BegunQuery). d.query) c.self.view_is) c.at.ensures in
+    rw (← (ap (λ (d : BegunQuery). d.query) c.self.view_is)) c.at.ensures in
     let inv = c.loop-k.invariant in
     let a = c.in_ok-automaton.automaton in
     let fault = c.in_err-keep.field-0.0 in
     handed_on (HasCause (query_of first.query)) c.from_residual-in_err-keep.result fault c.from_residual-in_err-keep.ensures.1
     (let_kept first b inv.query k inv.long inv.made l at inv.held c.loop-k.effort inv.steps a c.in_ok-automaton.ensures.made c.in_err-keep.ensures.marked fault
-    (subst (λ (d : BegunQuery). IsHoldFault (d.held + size a.graph) fault) c.in_ok-automaton.ensures.same c.in_err-keep.ensures.fault))
+    (rw (← c.in_ok-automaton.ensures.same) c.in_err-keep.ensures.fault))
 
 pub loop-k-preserved : goal.loop-k-preserved
 loop-k-preserved c =

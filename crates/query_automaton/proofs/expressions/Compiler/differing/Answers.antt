@@ -17,7 +17,7 @@ returns-clause-made c =
     let p = c.args.right.now in
     let j = c.in_ok-alone.alone in
     let useful = c.in_ok-trim.field-0 in
-    subst (λ (m : Marked). ReducesMarked m (of_minus a p)) (sym c.in_ok-new.ensures)
+    rw c.in_ok-new.ensures
     (c.in_ok-trim.ensures.names ∙ c.in_ok-alone.ensures.names, reduct_of_reduct useful.graph j.graph (of_minus a p).graph c.in_ok-trim.ensures.reduct c.in_ok-alone.ensures.reduct)
 
 pub returns-in_err-alone-clause-fault : goal.returns-in_err-alone-clause-fault

@@ -21,8 +21,8 @@ returns-clause-made c =
     let useful = c.in_ok-trim.field-0 in
     let names = c.in_ok-pairs.ensures.join.names in
     let reduct : Reduces j.graph (of_join a p).graph =
-    subst (λ (xs : List VarName). Reduces j.graph (join_of (agree_on a.names p.names xs) (joined a.names p.names xs) a.graph p.graph)) names c.in_ok-pairs.ensures.join.reduct in
-    subst (λ (m : Marked). ReducesMarked m (of_join a p)) (sym c.in_ok-new.ensures)
+    rw (← names) c.in_ok-pairs.ensures.join.reduct in
+    rw c.in_ok-new.ensures
     (c.in_ok-trim.ensures.names ∙ names, reduct_of_reduct useful.graph j.graph (of_join a p).graph c.in_ok-trim.ensures.reduct reduct)
 
 pub returns-in_err-spend-clause-fault : goal.returns-in_err-spend-clause-fault

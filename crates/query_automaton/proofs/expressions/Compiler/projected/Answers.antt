@@ -11,19 +11,19 @@ pub returns-then-len-clause-names : goal.returns-then-len-clause-names
 returns-then-len-clause-names c =
     let a = c.args.inner in
     let same = c.vars.ensures ∙ ap (λ (m : Marked). m.names) c.as_automaton-whole.ensures in
-    let marked = subst (λ (m : Marked). IsMarked m) c.as_automaton-whole.ensures c.states.ensures.marked in
-    (kept_all c.args.names.now a marked c.len.ensures.ascending (subst (λ (ns : List VarName). Ascending ns) same c.len-2.ensures.ascending) c.requires
+    let marked = rw c.as_automaton-whole.ensures at c.states.ensures.marked in
+    (kept_all c.args.names.now a marked c.len.ensures.ascending (rw (← same) c.len-2.ensures.ascending) c.requires
     (omega (arith, c.len.ensures.value, c.len-2.ensures.value, c.if-len.true, ap (λ (ns : List VarName). length ns) same))).0
 
 pub returns-then-len-clause-reduct : goal.returns-then-len-clause-reduct
 returns-then-len-clause-reduct c =
     let a = c.args.inner in
     let same = c.vars.ensures ∙ ap (λ (m : Marked). m.names) c.as_automaton-whole.ensures in
-    let marked = subst (λ (m : Marked). IsMarked m) c.as_automaton-whole.ensures c.states.ensures.marked in
-    (kept_all c.args.names.now a marked c.len.ensures.ascending (subst (λ (ns : List VarName). Ascending ns) same c.len-2.ensures.ascending) c.requires
+    let marked = rw c.as_automaton-whole.ensures at c.states.ensures.marked in
+    (kept_all c.args.names.now a marked c.len.ensures.ascending (rw (← same) c.len-2.ensures.ascending) c.requires
     (omega (arith, c.len.ensures.value, c.len-2.ensures.value, c.if-len.true, ap (λ (ns : List VarName). length ns) same))).1
 
 pub returns-clause-reduct : goal.returns-clause-reduct
 returns-clause-reduct c =
-    subst (λ (p : Marked). Reduces p.graph (remarked (left_of c.args.inner.names c.args.names.now) c.args.inner.graph)) (sym c.in_ok-new.ensures)
-    (subst (λ (a : Marked). Reduces c.in_ok-project.field-0.graph (remarked (left_of a.names c.args.names.now) a.graph)) c.as_automaton-whole.ensures c.in_ok-project.ensures.reduct)
+    rw c.in_ok-new.ensures
+    (rw (← c.as_automaton-whole.ensures) c.in_ok-project.ensures.reduct)

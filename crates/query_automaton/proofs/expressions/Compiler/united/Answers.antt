@@ -17,8 +17,8 @@ returns-clause-made c =
     let p = c.args.part.now in
     let whole = c.in_ok-take.field-0 in
     let both = c.in_ok-both.both in
-    subst (λ (m : Marked). ReducesMarked m (of_union c.args.all p)) (sym c.in_ok-new.ensures)
-    (subst (λ (a : Marked). ReducesMarked both (of_union a p)) c.in_ok-take.ensures (united_made whole p both c.in_ok-both.ensures.names c.in_ok-both.ensures.reduct))
+    rw c.in_ok-new.ensures
+    (rw (← c.in_ok-take.ensures) (united_made whole p both c.in_ok-both.ensures.names c.in_ok-both.ensures.reduct))
 
 pub returns-in_err-both-clause-fault : goal.returns-in_err-both-clause-fault
 returns-in_err-both-clause-fault c =
@@ -26,7 +26,7 @@ returns-in_err-both-clause-fault c =
     let fault = c.in_err-both.field-0.0 in
     handed_on (IsTold (AreTooLarge Union c.args.all p) (length (of_union c.args.all p).graph.stops) c.args.effort.now (union_steps c.args.all p))
     c.from_residual-in_err-both.result (Size fault) c.from_residual-in_err-both.ensures.1
-    (subst (λ (a : Marked). AreTooLarge Union a p fault) c.in_ok-take.ensures (union_too_large c.in_ok-take.field-0 p fault c.in_err-both.ensures.fault))
+    (rw (← c.in_ok-take.ensures) (union_too_large c.in_ok-take.field-0 p fault c.in_err-both.ensures.fault))
 
 pub returns-in_err-spend-2-clause-fault : goal.returns-in_err-spend-2-clause-fault
 returns-in_err-spend-2-clause-fault c =
