@@ -33,7 +33,7 @@ names_in_turn names (x ∷ xs) before up =
     ∙ names_in_turn (names ++ x ∷ []) xs later up.1 ∙ append_assoc names (x ∷ []) xs
   where
     later : AllBefore (names ++ x ∷ []) xs
-    later a b h k = elim (has_last names x a h) as (λ _. name_cmp a b ≡ Less) [ inl g ↦ before a b g (inr k) | inr e ↦ subst (λ (w : VarName). name_cmp w b ≡ Less) e (below_all x b xs up.0 k) ]
+    later a b h k = elim (has_last names x a h) as (λ _. name_cmp a b ≡ Less) [ inl g ↦ before a b g (inr k) | inr e ↦ rw (← e) (below_all x b xs up.0 k) ]
 
 pub ascending_names : (xs : List VarName) → Ascending xs → with_names [] xs ≡ xs
 ascending_names xs up = names_in_turn [] xs (λ a b h. absurd h) up

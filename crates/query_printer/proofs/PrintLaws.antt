@@ -30,7 +30,7 @@ Forms room t f an_alt b = AltText room t f b
 
 -- a piece alone is a sequence
 piece_seq : (room : ℕ) (t : List ℕ) (f : Tree) (b : List ℕ) → SpellsPiece of_bytes room t f b → SeqText room t f b
-piece_seq room t f b p = (f ∷ [], subst (λ x. SpellsSeq of_bytes room x (f ∷ []) b) (append-nil t) (more_pieces p no_piece), refl)
+piece_seq room t f b p = (f ∷ [], rw (← append-nil t) (more_pieces p no_piece), refl)
 
 seq_alt : (room : ℕ) (t : List ℕ) (f : Tree) (b : List ℕ) → SeqText room t f b → AltText room t f b
 seq_alt room t f b (fs, s, e) = (seq_tree fs ∷ [], lone_arm s, e)
@@ -49,7 +49,7 @@ AllForms n t f k = (r : ℕ) → n ≤ r → (b : List ℕ) → Forms r t f k b
 wrapped_unit : (room : ℕ) (t : List ℕ) (f : Tree) (k : Shape) (b : List ℕ) → Forms room t f k (41 ∷ b) → SpellsUnit of_bytes (suc room) (40 ∷ (t ++ 41 ∷ [])) f b
 wrapped_unit room t f k b h =
     let a = forms_alt room t f k (41 ∷ b) h in
-    subst (λ x. SpellsUnit of_bytes (suc room) (40 ∷ (t ++ 41 ∷ [])) x b) a.2 (group_of a.1)
+    rw (← a.2) (group_of a.1)
 
 paren_unit : (room n : ℕ) (t : List ℕ) (f : Tree) (k : Shape) (b : List ℕ) → AllForms n t f k → suc n ≤ room →
     SpellsUnit of_bytes room (40 ∷ (t ++ 41 ∷ [])) f b
@@ -162,4 +162,4 @@ printed_is_atom before after a unsigned built few =
 pub formula_spells : (f : Tree) (after : List ℕ) → IsWellBuilt f → most_open f ≤ 100 → Spells of_bytes (printed f) (untied f) after
 formula_spells f after built few =
     let a = untied f in
-    subst (λ t. Spells of_bytes t a after) (append-nil (printed f)) (printed_spells a after built few)
+    rw (← append-nil (printed f)) (printed_spells a after built few)

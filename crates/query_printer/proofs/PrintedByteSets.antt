@@ -57,8 +57,8 @@ SomeItems t s after = ((t ≡ []) × (s ≡ set.empty)) ⊎ SpellsItems of_bytes
 
 more_run : (t u after : List ℕ) (s r : Bytes) → SomeItems t s (u ++ after) → SpellsItem of_bytes u r after → SomeItems (t ++ u) (set.union s r) after
 more_run t u after s r (inl none) is =
-    inr (subst (λ x. SpellsItems of_bytes (x ++ u) (set.union s r) after) (sym none.0)
-    (subst (λ x. SpellsItems of_bytes u x after) (sym (union_empty r) ∙ ap (λ x. set.union x r) (sym none.1)) (one_item is)))
+    inr (rw none.0
+    (rw (← (sym (union_empty r) ∙ ap (λ x. set.union x r) (sym none.1))) (one_item is)))
 more_run t u after s r (inr are) is = inr (more_items are is)
 
 runs_items : (s : Bytes) (n : ℕ) → n ≤ 256 → (after : List ℕ) → begins_range after ≡ false → SomeItems (runs_text s n) (runs_set s n) after
@@ -72,7 +72,7 @@ runs_items s (suc n) few after stops =
     more_run (runs_text s n) (run_text n e) after (runs_set s n) (run_set n e)
     (runs_items s n (omega arith) (run_text n e ++ after) (run_no_dash n e (omega arith) after))
     (run_item n e (omega arith) (omega (arith, high)) low after stops))
-    (λ b. subst (λ t. SomeItems t (runs_set s n) after) (sym (append-nil (runs_text s n))) (runs_items s n (omega arith) after stops))
+    (λ b. rw (append-nil (runs_text s n)) (runs_items s n (omega arith) after stops))
   where
     e : ℕ
     e = run_end s (255 - n) n
@@ -93,7 +93,7 @@ items_there s t after some (inr are) = are
 class_is : (s : Bytes) → IsByteClass s → (after : List ℕ) → IsPlain of_bytes (91 ∷ (runs_text s 256 ++ 93 ∷ [])) (one s) after
 class_is s built after =
     let items : SomeItems (runs_text s 256) s (93 ∷ after) =
-    subst (λ r. SomeItems (runs_text s 256) r (93 ∷ after)) (runs_are s built.1) (runs_items s 256 (omega arith) (93 ∷ after) refl) in
+    rw (runs_are s built.1) at (runs_items s 256 (omega arith) (93 ∷ after) refl) in
     class (of_items (runs_no_caret s 256 (omega arith)) (items_there s (runs_text s 256) (93 ∷ after) built.0 items), built.0) refl
 
 -- ---- one byte
@@ -130,7 +130,7 @@ one_text b (suc n) past =
     cases (n == b) (runs_text (single b) (suc n) ≡ byte_text b)
     (λ h.
     let same : n ≡ b = grind (arith, nat_tests) in
-    subst (λ m. runs_text (single b) (suc m) ≡ byte_text b) (sym same)
+    rw same
     (ap (λ v. runs_text (single b) b ++ (if v then run_text b (run_end (single b) (255 - b) b) else [])) (starts_there b)
     ∙ ap (λ t. t ++ run_text b (run_end (single b) (255 - b) b)) (none_yet b b (omega arith))
     ∙ ap (run_text b) (ends_there b (255 - b)) ∙ run_of_one b))
@@ -142,8 +142,7 @@ one_text b (suc n) past =
 one_is : (s : Bytes) → AreBytes s → bytes_below s 256 ≡ 1 → (after : List ℕ) → IsPlain of_bytes (runs_text s 256) (one s) after
 one_is s bytes only after =
     let (b, small, same) = one_byte s bytes only in
-    subst (λ r. IsPlain of_bytes (runs_text r 256) (one r) after) (sym same)
-    (subst (λ t. IsPlain of_bytes t (one (single b)) after) (sym (one_text b 256 small)) (byte_plain b small after))
+    rw (← same) at (rw (← (one_text b 256 small)) at (byte_plain b small after))
 
 -- ---- a set
 

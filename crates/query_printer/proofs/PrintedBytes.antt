@@ -44,9 +44,9 @@ marked b hides ascii = grind (arith, nat_tests)
 pub byte_is : (b : ℕ) → b < 256 → IsByteText b (byte_text b)
 byte_is b small =
     if_is (is_shown b) _ _ b (λ h. shown h)
-    (λ hides. if_is (b == 10) _ _ b (λ e. subst (λ x. IsByteText x (92 ∷ 110 ∷ [])) (equal b 10 e) (hidden newline))
-    (λ n1. if_is (b == 9) _ _ b (λ e. subst (λ x. IsByteText x (92 ∷ 116 ∷ [])) (equal b 9 e) (hidden tab))
-    (λ n2. if_is (b == 13) _ _ b (λ e. subst (λ x. IsByteText x (92 ∷ 114 ∷ [])) (equal b 13 e) (hidden carriage_return))
+    (λ hides. if_is (b == 10) _ _ b (λ e. rw (equal b 10 e) at (hidden newline))
+    (λ n1. if_is (b == 9) _ _ b (λ e. rw (equal b 9 e) at (hidden tab))
+    (λ n2. if_is (b == 13) _ _ b (λ e. rw (equal b 13 e) at (hidden carriage_return))
     (λ n3. if_is (is_between 33 126 b) _ _ b (λ ascii. hidden (itself (marked b hides ascii)))
     (λ n4. hex_is b small)))))
 

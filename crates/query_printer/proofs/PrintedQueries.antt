@@ -65,7 +65,7 @@ expr_text done more whole same free e formed shallow =
     told : (k : ℕ) → k < n → (x : VarName) × (slice_get known k ≡ Some x) × (slice_get names k ≡ Some x) × IsFreeName x
     told k within =
         let (x, a, b, has) = told_at done more k within in
-        (x, a, subst (λ ls. slice_get (names_of ls) k ≡ Some x) same b, free x (subst (λ ls. Has (names_of ls) x) same has))
+        (x, a, rw (← same) b, free x (rw (← same) has))
 
 let_lexed : (x : VarName) (v : List ℕ) (us : List Token) → IsFreeName x → Lexes v us →
     LexedAlways (codes "let " ++ (x ++ (codes " = " ++ (v ++ codes "; ")))) (let_word ∷ name_token x ∷ equals ∷ (us ++ semicolon ∷ []))
@@ -87,21 +87,21 @@ next_let names u done l (ts, lexed, s) free new (us, es, lexes, x, is) =
     let more = let_word ∷ name_token l.0 ∷ equals ∷ (us ++ semicolon ∷ []) in (
       ts ++ more,
       (λ after. lexed_both u (let_text names l) ts more after (lexed (let_text names l ++ after)) (let_lexed l.0 (printed names l.1) us free lexes after)),
-      subst (λ e. SpellsLets (ts ++ more) (done ++ (l.0, e) ∷ [])) is (more_lets s free new x),
+      rw (← is) (more_lets s free new x),
     )
 
 lets_spelled : (q : QueryTree) → IsSound q → IsShallowQuery q → (more done : Lets) → done ++ more ≡ q.lets → (u : List ℕ) → LetsText u done →
     LetsText (u ++ lets_text (names_of q.lets) more) q.lets
 lets_spelled q sound shallow [] done same u (ts, lexed, s) =
-    (ts, subst (λ v. LexedAlways v ts) (sym (append-nil u)) lexed, subst (SpellsLets ts) (sym (append-nil done) ∙ same) s)
+    (ts, rw (append-nil u) lexed, subst (SpellsLets ts) (sym (append-nil done) ∙ same) s)
 lets_spelled q sound shallow (l ∷ more) done same u before =
     let names = names_of q.lets in
-    let at : slice_get q.lets (length done) ≡ Some l = subst (λ ls. slice_get ls (length done) ≡ Some l) same (get_there done l more) in
-    let free : IsFreeName l.0 = sound.free l.0 (subst (λ ls. Has (names_of ls) l.0) same (has_there done l more)) in
-    let new = new_name done l more (subst (λ ls. AreDistinct (names_of ls)) (sym same) sound.distinct) in
+    let at : slice_get q.lets (length done) ≡ Some l = rw (← same) (get_there done l more) in
+    let free : IsFreeName l.0 = sound.free l.0 (rw (← same) (has_there done l more)) in
+    let new = new_name done l more (rw same sound.distinct) in
     let here = expr_text done (l ∷ more) q.lets same sound.free l.1 ((query_is_formed q sound).0 (length done) l at) (shallow.0 (length done) l at) in
     let rest = lets_spelled q sound shallow more (done ++ l ∷ []) (append_assoc done (l ∷ []) more ∙ same) (u ++ let_text names l) (next_let names u done l before free new here) in
-    (rest.0, subst (λ v. LexedAlways v rest.0) (append_assoc u (let_text names l) (lets_text names more)) rest.1, rest.2)
+    (rest.0, rw (← append_assoc u (let_text names l) (lets_text names more)) rest.1, rest.2)
 
 pub nothing_lexed : LexedAlways [] []
 nothing_lexed after text p more is has = subst (λ (k : ℕ). HasTokens text k more) (omega arith) has

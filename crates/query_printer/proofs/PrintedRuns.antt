@@ -49,9 +49,9 @@ end_to s (suc k) b =
 -- the bytes of a run are in the set
 pub run_in : (s : Bytes) (k b q : ℕ) → set.contains s b ≡ true → b ≤ q → q ≤ run_end s k b → set.contains s q ≡ true
 unfolding run_end
-run_in s zero b q has from to = let same : b ≡ q = omega arith in subst (λ n. set.contains s n ≡ true) same has
+run_in s zero b q has from to = let same : b ≡ q = omega arith in rw (← same) has
 run_in s (suc k) b q has from to =
-    cases (nat_le q b) (set.contains s q ≡ true) (λ h. let same : b ≡ q = grind (arith, nat_tests) in subst (λ n. set.contains s n ≡ true) same has)
+    cases (nat_le q b) (set.contains s q ≡ true) (λ h. let same : b ≡ q = grind (arith, nat_tests) in rw (← same) has)
     (λ h.
     let past : b + 1 ≤ q = grind (arith, nat_tests) in
     cases (set.contains s (b + 1)) (set.contains s q ≡ true)
@@ -143,7 +143,7 @@ start_zero s has = ap (λ v. v && true) has
 and_before : (s : Bytes) (m q r : ℕ) → q ≡ suc m → ((x : ℕ) → q ≤ x → x ≤ r → set.contains s x ≡ true) → set.contains s m ≡ true →
     (x : ℕ) → m ≤ x → x ≤ r → set.contains s x ≡ true
 and_before s m q r same all before x low high =
-    cases (nat_le x m) (set.contains s x ≡ true) (λ h. let is : m ≡ x = grind (arith, nat_tests) in subst (λ n. set.contains s n ≡ true) is before)
+    cases (nat_le x m) (set.contains s x ≡ true) (λ h. let is : m ≡ x = grind (arith, nat_tests) in rw (← is) before)
     (λ h. let past : suc m ≤ x = grind (arith, nat_tests) in all x (omega (arith, same, past)) high)
 
 -- a byte of the set that follows q in one run, where q is below n, is in a run that begins below n
@@ -170,7 +170,7 @@ pub runs_are : (s : Bytes) → AreBytes s → runs_set s 256 ≡ s
 runs_are s bytes = same_members (runs_set s 256) s (λ q. both_ways (set.contains (runs_set s 256) q) (set.contains s q) (runs_in s 256 q)
     (λ has.
     let small = bytes q has in
-    runs_reach s 256 q q small (omega arith) (omega arith) (omega arith) (λ x low high. let same : q ≡ x = omega arith in subst (λ n. set.contains s n ≡ true) same has)))
+    runs_reach s 256 q q small (omega arith) (omega arith) (omega arith) (λ x low high. let same : q ≡ x = omega arith in rw (← same) has)))
 
 -- ---- how many bytes
 

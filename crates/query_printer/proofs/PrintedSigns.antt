@@ -42,16 +42,16 @@ equal m n h = grind (arith, nat_tests)
 pub sign_is : (least : ℕ) (most : Option ℕ) → AreRepeatNumbers least most → IsRepeat (sign least most) least most
 sign_is m None (small, bounds) =
     by_bool (λ v. IsRepeat (if v then 42 ∷ [] else if m == 1 then 43 ∷ [] else at_least_text m) m None) (m == 0)
-    (λ h. subst (λ n. IsRepeat (42 ∷ []) n None) (equal m 0 h) star)
+    (λ h. rw (← equal m 0 h) star)
     (λ h. by_bool (λ v. IsRepeat (if v then 43 ∷ [] else at_least_text m) m None) (m == 1)
-    (λ k. subst (λ n. IsRepeat (43 ∷ []) n None) (equal m 1 k) plus)
+    (λ k. rw (← equal m 1 k) plus)
     (λ k. at_least (number_is m small)))
 sign_is m (Some k) (small, bounds) =
     let (le, few) = bounds k refl in
     by_bool (λ v. IsRepeat (if v then 63 ∷ [] else if m == k then exactly_text m else between_text m k) m (Some k)) (m == 0 && k == 1)
     (λ h.
     let both = and_parts (m == 0) (k == 1) h in
-    subst (λ n. IsRepeat (63 ∷ []) n (Some k)) (equal m 0 both.0) (subst (λ n. IsRepeat (63 ∷ []) 0 (Some n)) (equal k 1 both.1) maybe))
+    rw (← equal m 0 both.0) (rw (← equal k 1 both.1) maybe))
     (λ h. by_bool (λ v. IsRepeat (if v then exactly_text m else between_text m k) m (Some k)) (m == k)
-    (λ same. subst (λ n. IsRepeat (exactly_text m) m (Some n)) (sym (equal m k same)) (exactly (number_is m small)))
+    (λ same. rw (equal m k same) (exactly (number_is m small)))
     (λ other. between (number_is m small) (number_is k few) le))

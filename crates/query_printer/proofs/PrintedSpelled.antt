@@ -38,7 +38,7 @@ abbrev NamesText : List ℕ → List VarName → Type 0
 NamesText u xs = (ts : List Token) × Lexes u ts × SpellsNames ts xs
 
 names_spelled : (rest : List VarName) → ((x : VarName) → Has rest x → IsFreeName x) → (u : List ℕ) (xs : List VarName) → NamesText u xs → NamesText (u ++ further (44 ∷ []) rest) (xs ++ rest)
-names_spelled [] free u xs (ts, lexes, s) = (ts, subst (λ v. Lexes v ts) (sym (append-nil u)) lexes, subst (SpellsNames ts) (sym (append-nil xs)) s)
+names_spelled [] free u xs (ts, lexes, s) = (ts, rw (append-nil u) lexes, subst (SpellsNames ts) (sym (append-nil xs)) s)
 names_spelled (x ∷ rest) free u xs (ts, lexes, s) =
     let here = free x (inl refl) in
     let r = names_spelled rest (λ y h. free y (inr h)) (u ++ (44 ∷ [] ++ x)) (xs ++ x ∷ []) (
@@ -47,7 +47,7 @@ names_spelled (x ∷ rest) free u xs (ts, lexes, s) =
           (λ after. refl) (λ after stops. lexed_name x after here stops),
       more_names s here,
     ) in
-    (r.0, subst (λ v. Lexes v r.0) (more_texts u (44 ∷ []) x rest) r.1, subst (SpellsNames r.0) (append_assoc xs (x ∷ []) rest) r.2)
+    (r.0, rw (← more_texts u (44 ∷ []) x rest) r.1, subst (SpellsNames r.0) (append_assoc xs (x ∷ []) rest) r.2)
 
 keep_spelled : (names : List VarName) → ((x : VarName) → Has names x → IsFreeName x) → AreVariables names → (ts : List Token) × Lexes (keep_text names) ts × SpellsKeep ts names
 keep_spelled [] free set = (none_word ∷ [], lexed_none, keeps_none)
@@ -55,7 +55,7 @@ keep_spelled (x ∷ xs) free set =
     let here = free x (inl refl) in
     let r = names_spelled xs (λ y h. free y (inr h)) x (x ∷ []) (name_token x ∷ [], λ after stops. lexed_name x after here stops, one_name here) in
     let all = ascending_names (x ∷ xs) set.ascending in
-    (r.0, r.1, subst (SpellsKeep r.0) all (keeps_names r.2 (subst (λ (ys : List VarName). length ys ≤ MOST_VARIABLES) (sym all) set.few)))
+    (r.0, r.1, subst (SpellsKeep r.0) all (keeps_names r.2 (rw all set.few)))
 
 -- ---- expressions
 
@@ -123,7 +123,7 @@ module _ (names known : List VarName) (n : ℕ)
   next_conj room u v fs e (ts, lexes, s) (us, es, more, c, is) = (
     ts ++ union_word ∷ us,
     lexes_more u (codes " union ") v ts us union_word lexes lexed_union (λ after. refl) more,
-    subst (λ f. SpellsExpr known room (ts ++ union_word ∷ us) (fs ++ f ∷ [])) is (more_conjs s c),
+    rw (← is) (more_conjs s c),
   )
 
   next_unit : (room : ℕ) (u v : List ℕ) (fs : List ExprTree) (e : ExprTree) → UnitsText room u fs → AsUnit room v e → UnitsText room (u ++ (codes " join " ++ v)) (fs ++ e ∷ [])
@@ -140,7 +140,7 @@ module _ (names known : List VarName) (n : ℕ)
 
   -- the first part
   first_conj : (room : ℕ) (u : List ℕ) (e : ExprTree) → AsConj room u e → ConjsText room u (e ∷ [])
-  first_conj room u e (ts, es, lexes, s, is) = (ts, lexes, subst (λ f. SpellsExpr known room ts (f ∷ [])) is (lone_conj s))
+  first_conj room u e (ts, es, lexes, s, is) = (ts, lexes, rw (← is) (lone_conj s))
 
   first_unit : (room : ℕ) (u : List ℕ) (e : ExprTree) → AsUnit room u e → UnitsText room u (e ∷ [])
   first_unit room u e (ts, lexes, s) = (ts, lexes, lone_unit s)
@@ -153,16 +153,16 @@ module _ (names known : List VarName) (n : ℕ)
   Units room u fs rest = (es : List ExprTree) × UnitsText room u (fs ++ es) × (join_all es ≡ rest)
 
   no_conj : (room : ℕ) (u : List ℕ) (fs : List ExprTree) → ConjsText room u fs → Conjs room (u ++ []) fs union_end
-  no_conj room u fs (ts, lexes, s) = ([], (ts, subst (λ v. Lexes v ts) (sym (append-nil u)) lexes, subst (SpellsExpr known room ts) (sym (append-nil fs)) s), refl)
+  no_conj room u fs (ts, lexes, s) = ([], (ts, rw (append-nil u) lexes, subst (SpellsExpr known room ts) (sym (append-nil fs)) s), refl)
 
   no_unit : (room : ℕ) (u : List ℕ) (fs : List ExprTree) → UnitsText room u fs → Units room (u ++ []) fs join_end
-  no_unit room u fs (ts, lexes, s) = ([], (ts, subst (λ v. Lexes v ts) (sym (append-nil u)) lexes, subst (SpellsConj known room ts) (sym (append-nil fs)) s), refl)
+  no_unit room u fs (ts, lexes, s) = ([], (ts, rw (append-nil u) lexes, subst (SpellsConj known room ts) (sym (append-nil fs)) s), refl)
 
   conjs_after : (room : ℕ) (u v : List ℕ) (rest : List (List ℕ)) (fs : List ExprTree) (e tree : ExprTree) →
       Conjs room ((u ++ (codes " union " ++ v)) ++ further (codes " union ") rest) (fs ++ e ∷ []) tree → Conjs room (u ++ further (codes " union ") (v ∷ rest)) fs (union e tree)
   conjs_after room u v rest fs e tree (es, (ts, lexes, s), is) = (
     e ∷ es,
-    (ts, subst (λ w. Lexes w ts) (more_texts u (codes " union ") v rest) lexes, subst (SpellsExpr known room ts) (append_assoc fs (e ∷ []) es) s),
+    (ts, rw (← more_texts u (codes " union ") v rest) lexes, subst (SpellsExpr known room ts) (append_assoc fs (e ∷ []) es) s),
     ap (union e) is,
   )
 
@@ -170,7 +170,7 @@ module _ (names known : List VarName) (n : ℕ)
       Units room ((u ++ (codes " join " ++ v)) ++ further (codes " join ") rest) (fs ++ e ∷ []) tree → Units room (u ++ further (codes " join ") (v ∷ rest)) fs (join e tree)
   units_after room u v rest fs e tree (es, (ts, lexes, s), is) = (
     e ∷ es,
-    (ts, subst (λ w. Lexes w ts) (more_texts u (codes " join ") v rest) lexes, subst (SpellsConj known room ts) (append_assoc fs (e ∷ []) es) s),
+    (ts, rw (← more_texts u (codes " join ") v rest) lexes, subst (SpellsConj known room ts) (append_assoc fs (e ∷ []) es) s),
     ap (join e) is,
   )
 
@@ -183,7 +183,7 @@ module _ (names known : List VarName) (n : ℕ)
   named_text : (room k : ℕ) → k < n → AsUnit room (unwrap_or (slice_get names k) []) (named k)
   named_text room k within =
       let (x, there, here, free) = told k within in
-      (name_token x ∷ [], subst (λ o. Lexes (unwrap_or o []) (name_token x ∷ [])) (sym here) (λ after stops. lexed_name x after free stops), named_unit there)
+      (name_token x ∷ [], rw here (λ after stops. lexed_name x after free stops), named_unit there)
 
   atom_text_unit : (room : ℕ) (a : AtomTree) → IsWellBuilt a.formula → formulas.most_open a.formula ≤ 100 → AsUnit room (atom_text a) (atom a)
   atom_text_unit room a built few = (atom_token a ∷ [], (λ after stops. lexed_atom a after stops built few), atom_unit)
@@ -200,7 +200,7 @@ module _ (names known : List VarName) (n : ℕ)
             (lexed_both (keep_text keep) (codes " (" ++ (u ++ 41 ∷ [])) ks (open_paren ∷ inner) after (keeps _ refl)
             (lexed_both (codes " (") (u ++ 41 ∷ []) (open_paren ∷ []) inner after (lexed_open _)
             (lexed_both u (41 ∷ []) ts (close_paren ∷ []) after (lexes (41 ∷ after) refl) (lexed_sign 41 close_paren after refl))))),
-        subst (λ f. SpellsUnit known (suc room) whole (project keep f)) is (projection_of k s),
+        rw (← is) (projection_of k s),
       )
 
   -- the sides of a difference
@@ -210,7 +210,7 @@ module _ (names known : List VarName) (n : ℕ)
         whole,
         minus e g ∷ [],
         lexes_more u (codes " minus ") v ts us (name_token minus_word) lexes lexed_minus (λ after. refl) more,
-        subst (λ f. SpellsExpr known room whole (minus f g ∷ [])) is (subst (λ f. SpellsExpr known room whole (minus (join_tree ds) f ∷ [])) same (less_conj (lone_conj s) c)),
+        rw (← is) (rw (← same) (less_conj (lone_conj s) c)),
         refl,
       )
 

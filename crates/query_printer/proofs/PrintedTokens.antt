@@ -47,7 +47,7 @@ lexed_both u v ts us after first second text p more is has =
     let here : drop p text ≡ u ++ (v ++ after) = is ∙ append_assoc u v after in
     let end : p + length (u ++ v) ≡ (p + length u) + length v = omega (arith, length-append u v) in
     subst (HasTokens text p) (sym (append_assoc ts us more))
-    (first text p (us ++ more) here (second text (p + length u) more (drop_token text p u (v ++ after) here) (subst (λ (k : ℕ). HasTokens text k more) end has)))
+    (first text p (us ++ more) here (second text (p + length u) more (drop_token text p u (v ++ after) here) (rw (← end) has)))
 
 -- ---- one token
 
@@ -66,7 +66,7 @@ unsigned [] stops = refl
 unsigned (c ∷ t) stops = by (eqb_tells c 117)
   where
     by : (((c == 117) ≡ true) × (c ≡ 117)) ⊎ (((c == 117) ≡ false) × ((c ≡ 117) → ⊥)) → is_sign (c ∷ t) ≡ false
-    by (inl is) = absurd (true≢false (subst (λ (x : ℕ). is_name_byte x ≡ false) is.1 stops))
+    by (inl is) = absurd (true≢false (rw is.1 at stops))
     by (inr is) = ap (λ x. x && not (begins is_name_byte t)) is.0
 
 pub lexed_atom : (a : AtomTree) (after : List ℕ) → begins is_name_byte after ≡ false → IsWellBuilt a.formula → formulas.most_open a.formula ≤ 100 → Lexed (atom_text a) (atom_token a ∷ []) after

@@ -97,7 +97,7 @@ Follow d ps done asked = (new : List Asked) × SpellsTests (d ++ ps) (done ++ ne
 placed_further : (asked : List Asked) → AreFreeTests asked → (ps d : List Placed) (done : List Asked) → tokens_of ps ≡ further_tokens asked → SpellsTests d done → Follow d ps done asked
 placed_further [] free ps d done is s =
     let none = none_of ps is in
-    ([], subst (λ xs. SpellsTests (d ++ xs) (done ++ [])) (sym none) (subst (λ xs. SpellsTests xs (done ++ [])) (sym (append-nil d)) (subst (SpellsTests d) (sym (append-nil done)) s)), refl)
+    ([], rw none (rw (append-nil d) (subst (SpellsTests d) (sym (append-nil done)) s)), refl)
 placed_further (a ∷ asked) free ps d done is s =
     let (p, qs, one, later) = first_of ps comma (test_tokens a ++ further_tokens asked) is in
     let (e, rest, at, splits, test, others) = placed_test qs a (further_tokens asked) (free a (inl refl)) later in
@@ -105,7 +105,7 @@ placed_further (a ∷ asked) free ps d done is s =
     let (new, spelled, same) = placed_further asked (λ c h. free c (inr h)) rest (d ++ (p, comma) ∷ e) (done ++ b ∷ []) others (more_tests p s test) in
     let text : (d ++ (p, comma) ∷ e) ++ rest ≡ d ++ ps =
     append_assoc d ((p, comma) ∷ e) rest ∙ ap (λ xs. d ++ (p, comma) ∷ xs) (sym splits) ∙ ap (λ xs. d ++ xs) (sym one) in
-    (b ∷ new, subst (λ xs. SpellsTests xs (done ++ b ∷ new)) text (subst (SpellsTests ((d ++ (p, comma) ∷ e) ++ rest)) (append_assoc done (b ∷ []) new) spelled), ap (λ xs. asks a ∷ xs) same)
+    (b ∷ new, rw (← text) (subst (SpellsTests ((d ++ (p, comma) ∷ e) ++ rest)) (append_assoc done (b ∷ []) new) spelled), ap (λ xs. asks a ∷ xs) same)
 
 placed_tests : (a : Asked) (asked : List Asked) → AreFreeTests (a ∷ asked) → (ps : List Placed) → tokens_of ps ≡ test_tokens a ++ further_tokens asked →
     (new : List Asked) × SpellsTests ps new × (map asks new ≡ map asks (a ∷ asked))
@@ -113,7 +113,7 @@ placed_tests a asked free ps is =
     let (d, rest, at, splits, test, others) = placed_test ps a (further_tokens asked) (free a (inl refl)) is in
     let b = asked_of a.test at a.var in
     let (new, spelled, same) = placed_further asked (λ c h. free c (inr h)) rest d (b ∷ []) others (first_test test) in
-    (b ∷ new, subst (λ xs. SpellsTests xs (b ∷ new)) (sym splits) spelled, ap (λ xs. asks a ∷ xs) same)
+    (b ∷ new, rw (← splits) at spelled, ap (λ xs. asks a ∷ xs) same)
 
 -- ---- the text
 
@@ -122,7 +122,7 @@ of_same V [] ys is all a h = absurd h
 of_same V (x ∷ xs) [] is all a h = absurd (cc)
 of_same V (x ∷ xs) (y ∷ ys) is all a (inl e) =
     let pair : asks x ≡ asks y = cc in
-    subst (λ (z : Asked). V z.var) e (subst V (sym (ap (λ (z : VarName × VarName). z.1) pair)) (all y (inl refl)))
+    rw (← e) (subst V (sym (ap (λ (z : VarName × VarName). z.1) pair)) (all y (inl refl)))
 of_same V (x ∷ xs) (y ∷ ys) is all a (inr h) = let others : map asks xs ≡ map asks ys = cc in of_same V xs ys others (λ b k. all b (inr k)) a h
 
 abbrev Spelled : TestedTree → Type 0
@@ -140,7 +140,7 @@ tested_spelled t ok = by t.asked ok.free (query_lexes t.query ok.sound ok.shallo
             query = ps;
             tests = [];
             placed = subst (HasPlaced (query_text t.query) 0) (sym (append-nil ps)) has;
-            spells_query = subst (λ us. Spells us t.query) (sym is) spells;
+            spells_query = rw is spells;
             spells_tests = no_test;
           },
           refl,
@@ -158,7 +158,7 @@ tested_spelled t ok = by t.asked ok.free (query_lexes t.query ok.sound ok.shallo
             query = front;
             tests = back;
             placed = subst (HasPlaced text 0) splits has;
-            spells_query = subst (λ us. Spells us t.query) (sym query) spells;
+            spells_query = rw query spells;
             spells_tests = subst (λ xs. SpellsWhere xs new) (sym word) (tests_follow spelled);
           },
           same,
