@@ -49,11 +49,11 @@ with_front test from end less passes f [] is = record {
   apart = (omega arith, tt, tt);
   after = (omega arith, tt);
   within = λ c h. elim h [
-    | inl w ↦ (w.0, omega (arith, less, w.1), (let e : from ≡ c = omega (arith, w.0, w.1) in subst (λ k. IsTrue (test k)) e passes))
+    | inl w ↦ (w.0, omega (arith, less, w.1), (let e : from ≡ c = omega (arith, w.0, w.1) in rw (← e) passes))
     | inr none ↦ absurd none
   ];
   each = λ c low high has. elim (cases_lt from c) [
-    | inl more ↦ absurd (subst (λ r. Covers r c) (sym is) (f.each c (omega (arith, more)) high has))
+    | inl more ↦ absurd (rw (← is) at (f.each c (omega (arith, more)) high has))
     | inr here ↦ inl (low, omega (arith, here))
   ];
 }
@@ -63,16 +63,16 @@ with_front test from end less passes f ((a, b) ∷ rest) is =
     let start = after.0 in
     let rises = apart.0 in
     let within : (c : ℕ) → Covers ((a, b) ∷ rest) c → (from + 1 ≤ c) × (c < end) × IsTrue (test c) =
-    subst (λ r. (c : ℕ) → Covers r c → (from + 1 ≤ c) × (c < end) × IsTrue (test c)) (sym is) f.within in
+    rw (← is) at f.within in
     let each : (c : ℕ) → from + 1 ≤ c → c < end → IsTrue (test c) → Covers ((a, b) ∷ rest) c =
-    subst (λ r. (c : ℕ) → from + 1 ≤ c → c < end → IsTrue (test c) → Covers r c) (sym is) f.each in
+    rw (← is) at f.each in
     elim (cases_lt (from + 1) a) [
       | inl gap ↦ record {
         ranges = (from, from) ∷ ((a, b) ∷ rest);
         apart = (omega arith, (gap, rest_past a b from rest rises (omega (arith, gap)) apart.1), apart);
         after = (omega arith, (omega (arith, gap), rest_from a b from rest rises (omega (arith, gap)) apart.1));
         within = λ c h. elim h [
-          | inl w ↦ (w.0, omega (arith, less, w.1), (let e : from ≡ c = omega (arith, w.0, w.1) in subst (λ k. IsTrue (test k)) e passes))
+          | inl w ↦ (w.0, omega (arith, less, w.1), (let e : from ≡ c = omega (arith, w.0, w.1) in rw (← e) passes))
           | inr k ↦ (let w = within c k in (omega (arith, w.0), w.1, w.2))
         ];
         each = λ c low high has. elim (cases_lt from c) [
@@ -87,7 +87,7 @@ with_front test from end less passes f ((a, b) ∷ rest) is =
         within = λ c h. elim h [
           | inl w ↦ elim (cases_lt from c) [
             | inl more ↦ (let v = within c (inl (omega (arith, same, more), w.1)) in (omega (arith, v.0), v.1, v.2))
-            | inr here ↦ (w.0, omega (arith, less, here), (let e : from ≡ c = omega (arith, w.0, here) in subst (λ k. IsTrue (test k)) e passes))
+            | inr here ↦ (w.0, omega (arith, less, here), (let e : from ≡ c = omega (arith, w.0, here) in rw (← e) passes))
           ]
           | inr k ↦ (let v = within c (inr k) in (omega (arith, v.0), v.1, v.2))
         ];
@@ -106,7 +106,7 @@ without_front test from end fails f = record {
   within = λ c h. (let w = f.within c h in (omega (arith, w.0), w.1, w.2));
   each = λ c low high has. elim (cases_lt from c) [
     | inl more ↦ f.each c (omega (arith, more)) high has
-    | inr here ↦ absurd (fails (let e : c ≡ from = omega (arith, low, here) in subst (λ k. IsTrue (test k)) e has))
+    | inr here ↦ absurd (fails (let e : c ≡ from = omega (arith, low, here) in rw (← e) has))
   ];
 }
 
@@ -141,7 +141,7 @@ none_of_ranges s ranges are none =
     same_set nat_cmp_total nat_cmp-IsAntisymmetric s set.empty (λ c. by c (set.contains s c) refl)
   where
     by : (c : ℕ) (b : Bool) → set.contains s c ≡ b → set.contains s c ≡ set.contains (set.empty {R = nat_cmp}) c
-    by c true e = absurd (subst (λ r. Covers r c) none ((are.same c).1 e))
+    by c true e = absurd (rw none at ((are.same c).1 e))
     by c false e = e ∙ sym (contains-empty nat_cmp c)
 
 -- the characters among the members of a set
@@ -191,5 +191,5 @@ are_trees one_ranges one_class has = record { built = built; only = only }
         let same : ranges ≡ r.0 = one_ranges ranges r.0 are.apart mine.apart
         (λ c. (λ h. (mine.same c).1 ((are.same c).0 h), λ h. (are.same c).1 ((mine.same c).0 h))) in
         one_class r.0 f (tree_of_ranges has r.0 r.1.apart (are_characters (characters_in s) r.0 (characters_are s) r.1))
-        (subst (λ x. IsClassTree x f) same tree)
+        (rw (← same) tree)
         (tree_is has r.0 r.1.apart (are_characters (characters_in s) r.0 (characters_are s) r.1) (λ e. some (none_of_ranges s r.0 mine e)))

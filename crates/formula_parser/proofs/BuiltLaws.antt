@@ -217,7 +217,7 @@ module _ (plain_trees : ClassTreesArePlain) (alphabet : Alphabet) where
   over_built text from x (u, v, stands, (t, fs, text_is, arms, tree), after) bytes =
       let s = given x.0.from_start 94 in
       let e = given x.0.to_end 36 in
-      let here : IsText ((s ++ (t ++ e)) ++ 47 ∷ v) = subst (λ y. IsText (y ++ 47 ∷ v)) text_is (subst IsText stands (text_from (from + 1) text bytes)) in
+      let here : IsText ((s ++ (t ++ e)) ++ 47 ∷ v) = rw text_is at (subst IsText stands (text_from (from + 1) text bytes)) in
       let middle = text_first t e (text_second s (t ++ e) (text_first (s ++ (t ++ e)) (47 ∷ v) here)) in
       let good = alt_good 410 fs (alt_built arms middle) in
       let depth = good.1 in

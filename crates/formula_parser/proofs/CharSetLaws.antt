@@ -80,8 +80,8 @@ single_has c = contains-insert nat_cmp_total set.empty c c ∙ grind (arith, nat
 pub holds_single : (new old : List (ℕ × ℕ)) (c : ℕ) → old ≡ [] → IsJoined new old (IsCharBetween c c) → Holds new (set.insert set.empty c)
 holds_single new old c none joined q = (
   λ h. elim ((joined q).0 h) [
-    | inl k ↦ absurd (subst (λ r. Covers r q) none k)
-    | inr k ↦ (k.0, (let same : c ≡ q = omega (arith, k.1, k.2) in subst (λ x. set.contains (single c) x ≡ true) same (single_has c)))
+    | inl k ↦ absurd (rw none at k)
+    | inr k ↦ (k.0, (let same : c ≡ q = omega (arith, k.1, k.2) in rw (← same) (single_has c)))
   ],
   λ h. (let same = single_is c q h.1 in (joined q).1 (inr (h.0, omega (arith, same), omega (arith, same)))),
 )
@@ -166,7 +166,7 @@ pub takes_byte : (new old : List (ℕ × ℕ)) (b : ℕ) (s : Bytes) → b < 256
 takes_byte new old b s small has holds joined c = (
   λ h. elim ((joined c).0 h) [
     | inl k ↦ (let v = (holds c).0 k in (omega (arith, v.0), v.1))
-    | inr k ↦ (omega (arith, k.2), (let same : b ≡ c = omega (arith, k.1, k.2) in subst (λ x. set.contains s x ≡ true) same has))
+    | inr k ↦ (omega (arith, k.2), (let same : b ≡ c = omega (arith, k.1, k.2) in rw (← same) has))
   ],
   λ h. elim (cases_lt c b) [
     | inl less ↦ (joined c).1 (inl ((holds c).1 (less, h.1)))

@@ -93,7 +93,7 @@ module _ (lang : Dialect) (speaks : Speaks lang) where
   class_told negated text from p s c = by (set.len s == 0) refl
     where
       by : (b : Bool) → (set.len s == 0) ≡ b → Tells text from (if b then Err (BadRange from) else Ok (s, p + 1 - from))
-      by true e = empty_class c.splits (subst (λ r. SpellsClass (alphabet_of lang) c.inside r c.after) (counts_none s e) c.spells)
+      by true e = empty_class c.splits (rw (counts_none s e) at c.spells)
       by false e = record {
         text = c.inside;
         rest = c.after;
@@ -133,7 +133,7 @@ module _ (lang : Dialect) (speaks : Speaks lang) where
       let next : drop (p + 1) text ≡ t = sym (drop-drop 1 p text) ∙ ap (drop 1) stands in
       subst (Tells text from) (sym (items_step lang speaks negated from p c t s w))
       (step_told negated text from p c t caret stands (rest_told negated text from (p + 1) t caret next) (class_step lang from p (c ∷ t) s w)
-      (meets lang speaks (class_byte c) negated text from p t s w (subst (λ n. Holds lang speaks negated text from n s w) here h) stands))
+      (meets lang speaks (class_byte c) negated text from p t s w (rw here at h) stands))
   rest_told negated text from p (c ∷ t) caret stands (suc skip) q s w same few h =
       let next : drop (p + 1) text ≡ t = sym (drop-drop 1 p text) ∙ ap (drop 1) stands in
       rest_told negated text from (p + 1) t caret next skip q s w (omega arith) (omega (arith, few)) h
@@ -161,7 +161,7 @@ module _ (lang : Dialect) (speaks : Speaks lang) where
           let front = byte_front 94 t e in
           let others : drop 1 t ≡ drop (from + 2) text = drop-drop 1 (from + 1) text ∙ ap (λ n. drop n text) (omega arith) in
           let caret : t ≡ 94 ∷ drop (from + 2) text = front.1 ∙ ap (λ z. 94 ∷ z) (ap (drop 1) (sym front.1) ∙ others) in
-          subst (λ z. Tells text from (items_at lang true from 0 (from + 2) z set.empty no_item)) (sym others)
+          rw others
           (rest_told true text from (from + 2) (drop (from + 2) text) caret refl 0 (from + 2) set.empty no_item (omega arith) (omega arith)
           (starts true text from (negation_read (front.0, front.1))))
       by false e =
@@ -172,7 +172,7 @@ module _ (lang : Dialect) (speaks : Speaks lang) where
   unfolding Tells
   class_is at t x e =
       let same = drop_padded at t in
-      subst (λ z. ClassText z x.0 x.1) same (subst (Tells (padded at t) at) (ap (class_at lang at) same ∙ e) (class_told_at (padded at t) at))
+      rw (← same) (subst (Tells (padded at t) at) (ap (class_at lang at) same ∙ e) (class_told_at (padded at t) at))
 
   pub class_fault_read : (text : List ℕ) (from : ℕ) {e : FormulaFault} → HasClassFault (alphabet_of lang) text from e → (t : List ℕ) → drop from text ≡ 91 ∷ t →
       class_at lang from t ≡ Err e

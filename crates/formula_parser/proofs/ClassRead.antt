@@ -94,7 +94,7 @@ module _ (lang : Dialect) (speaks : Speaks lang) where
       class_step lang from p (u ++ after) s w ≡ takes_token p (wide_in lang p (u ++ after)) s w
   wide_text_step u h from p after s w =
       let big = h.big in
-      subst (λ y. class_step lang from p (y ++ after) s w ≡ takes_token p (wide_in lang p (y ++ after)) s w) (sym h.text)
+      rw h.text
       (wide_step from p h.first (h.others ++ after) s w (λ e. omega (arith, e, big)) (λ e. omega (arith, e, big)) (λ e. omega (arith, e, big)) big)
 
   -- an element
@@ -103,8 +103,8 @@ module _ (lang : Dialect) (speaks : Speaks lang) where
   elem_step (plain {b = b} small n1 n2 n3 n4) from p after s w may = by (same_or_not b 45)
     where
       by : (b ≡ 45) ⊎ (b ≢ 45) → class_step lang from p (b ∷ after) s w ≡ takes_elem p (byte b, 1) s w
-      by (inl e) = subst (λ c. class_step lang from p (c ∷ after) s w ≡ takes_elem p (byte c, 1) s w) (sym e)
-          (dash_step from p after s w (subst (λ c. MayTake w (c ∷ after)) e may))
+      by (inl e) = rw e
+          (dash_step from p after s w (rw (← e) may))
       by (inr n5) = byte_step from p b after s w small n1 n2 n3 n4 n5
   elem_step (wide {c = c} is) from p after s w may =
       wide_text_step (encode_utf8 c) (is_wide_begins (alphabet_of lang) c is) from p after s w ∙ ap (λ x. takes_token p x s w) (wide_in_read lang c is after p)

@@ -56,8 +56,8 @@ module _ (lang : Dialect) (speaks : Speaks lang) where
   item_more : (a u after : List ℕ) (s r : Bytes) → Before a s (u ++ after) → SpellsItem (alphabet_of lang) u r after → SpellsItems (alphabet_of lang) (a ++ u) (set.union s r) after
   unfolding Before
   item_more a u after s r (inl none) is =
-      subst (λ x. SpellsItems (alphabet_of lang) (x ++ u) (set.union s r) after) (sym none.0)
-      (subst (λ x. SpellsItems (alphabet_of lang) u x after) (sym (union_empty r) ∙ ap (λ x. set.union x r) (sym none.1)) (one_item is))
+      rw none.0
+      (rw (← (sym (union_empty r) ∙ ap (λ x. set.union x r) (sym none.1))) (one_item is))
   item_more a u after s r (inr are) is = more_items are is
 
   before_at : (a : List ℕ) (s : Bytes) (b c : List ℕ) → b ≡ c → Before a s b → Before a s c
@@ -183,7 +183,7 @@ module _ (lang : Dialect) (speaks : Speaks lang) where
   escape_meets negated text from p t s w h e (Err f) none = escape_in_class h.reads (escape_fault_is lang text p t f e none)
   escape_meets negated text from p t s w h e (Ok x) found =
       let g = escape_in_is lang t p x found in
-      subst (λ n. Meets negated text from p (takes_elem p (x.0, n) s w)) (sym g.takes)
+      rw g.takes
       (elem_meets negated text from p (92 ∷ g.text) g.rest s w x.0 h (e ∙ ap (λ z. 92 ∷ z) g.splits) (not_dash w g.text g.rest) (escaped g.is))
     where
       not_dash : (w : Within) (a b : List ℕ) → MayTake w (92 ∷ (a ++ b))
@@ -197,11 +197,11 @@ module _ (lang : Dialect) (speaks : Speaks lang) where
   unfolding Meets
   wide_meets negated text from p b t s w h e big (Err f) is =
       let fault = wide_fault_is lang (b ∷ t) p f (grind (arith, nat_tests)) is in
-      subst (λ k. Meets negated text from p (fails k)) (sym fault.0)
+      rw fault.0
       (wide_in_class h.reads (t, e) big (subst (BeginsNoElem (alphabet_of lang)) (sym e) fault.1))
   wide_meets negated text from p b t s w h e big (Ok x) is =
       let (c, rest, known, same, takes) = wide_in_is lang (b ∷ t) p x (grind (arith, nat_tests)) is in
-      subst (λ k. Meets negated text from p (takes_elem p k s w)) (sym takes)
+      rw takes
       (elem_meets negated text from p (encode_utf8 c) rest s w (byte c) h (e ∙ same)
       (subst (MayTake w) same (plain_may w b t (λ n. omega (arith, n, big)))) (wide known))
 

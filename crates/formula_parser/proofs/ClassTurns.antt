@@ -58,7 +58,7 @@ module _ (lang : Dialect) (speaks : Speaks lang) where
   wide_fits p b t s w (Ok x) big e =
       let (c, rest, known, same, takes) = wide_in_is lang (b ∷ t) p x (grind (arith, nat_tests)) e in
       let h = is_wide_begins (alphabet_of lang) c known in
-      subst (λ k. Fits (b ∷ t) (takes_elem p k s w)) (sym takes)
+      rw takes
       (elem_fits p (length (encode_utf8 c)) (b ∷ t) (byte c) s w (omega (arith, ap length h.text)) (omega (arith, ap length same, length-append (encode_utf8 c) rest)))
 
   byte_fits : {c : ℕ} → ClassByte c → (from p : ℕ) (t : List ℕ) (s : Bytes) (w : Within) → Fits (c ∷ t) (class_step lang from p (c ∷ t) s w)
@@ -110,7 +110,7 @@ module _ (lang : Dialect) (speaks : Speaks lang) where
   pub fails_read : (negated : Bool) (from p : ℕ) (here rest : List ℕ) (s : Bytes) (w : Within) (e : FormulaFault) → rest ≡ here →
       fails e ≡ class_step lang from p rest s w → Err e ≡ items_at lang negated from 0 p here s w
   unfolding items_at
-  fails_read negated from p here rest s w e stands is = subst (λ t. Err e ≡ items_at lang negated from 0 p t s w) stands (by rest is)
+  fails_read negated from p here rest s w e stands is = rw (← stands) (by rest is)
     where
       by : (t : List ℕ) → fails e ≡ class_step lang from p t s w → Err e ≡ items_at lang negated from 0 p t s w
       by [] f = let same : e ≡ Unclosed from = cc in ap Err same
@@ -118,7 +118,7 @@ module _ (lang : Dialect) (speaks : Speaks lang) where
 
   pub closes_read : (negated : Bool) (from p : ℕ) (here rest : List ℕ) (s r : Bytes) (w : Within) → rest ≡ here →
       closes r ≡ class_step lang from p rest s w → closed_class lang negated from (p + 1) r ≡ items_at lang negated from 0 p here s w
-  closes_read negated from p here rest s r w stands is = subst (λ t. closed_class lang negated from (p + 1) r ≡ items_at lang negated from 0 p t s w) stands (by rest is)
+  closes_read negated from p here rest s r w stands is = rw (← stands) (by rest is)
     where
       by : (t : List ℕ) → closes r ≡ class_step lang from p t s w → closed_class lang negated from (p + 1) r ≡ items_at lang negated from 0 p t s w
       by [] f = absurd (cc)

@@ -224,10 +224,10 @@ chars_told (c ∷ t) p = by (c == 117) refl (c == 112) refl
         TellsEscape of_characters (c ∷ t) p (if a then number_in p (braced_at t) else if b then property_in p (braced_at t) else narrow_at p (escape_at (c ∷ t)))
     by true e b f =
         let is : 117 ≡ c = grind (arith, nat_tests) in
-        subst (λ k. TellsEscape of_characters (k ∷ t) p (number_in p (braced_at t))) is (numbers_told t p (braced_at t) refl)
+        rw (← is) (numbers_told t p (braced_at t) refl)
     by false e true f =
         let is : 112 ≡ c = grind (arith, nat_tests) in
-        subst (λ k. TellsEscape of_characters (k ∷ t) p (property_in p (braced_at t))) is (properties_told t p (braced_at t) refl)
+        rw (← is) (properties_told t p (braced_at t) refl)
     by false e false f = narrow_told (c ∷ t) p (escape_at (c ∷ t)) refl
 
 escape_told : (lang : Dialect) (t : List ℕ) (p : ℕ) → TellsEscape (alphabet_of lang) t p (escape_in lang p t)

@@ -44,7 +44,7 @@ hexes (h ∷ []) = tt
 hexes (h ∷ l ∷ t) = hex_escaped h l t (hex_value h) (hex_value l) refl refl
 
 same : (c d : ℕ) (t : List ℕ) (x : Option (Elem × ℕ)) → (c == d) ≡ true → AreEscaped (d ∷ t) x → AreEscaped (c ∷ t) x
-same c d t x e h = let is : d ≡ c = grind (arith, nat_tests) in subst (λ k. AreEscaped (k ∷ t) x) is h
+same c d t x e h = let is : d ≡ c = grind (arith, nat_tests) in rw (← is) h
 
 pub are_escaped : (t : List ℕ) → AreEscaped t (escape_at t)
 unfolding AreEscaped

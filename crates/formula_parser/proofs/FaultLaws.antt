@@ -95,7 +95,7 @@ module _ (lang : Dialect) (speaks : Speaks lang) where
     sound = (refl, refl);
     openers = refl;
     mark = refl;
-    goes_on = λ r ends. subst (λ q. Ends lang q (drop q text) (outermost from) r) is ends;
+    goes_on = λ r ends. rw (← is) ends;
   }
 
   repeat_goes : {u : List ℕ} {least : ℕ} {most : Option ℕ} → IsRepeat u least most → (from p : ℕ) (rest : List ℕ) (below : List Frame) (opener : Opener) (place : ℕ)
@@ -154,8 +154,7 @@ module _ (lang : Dialect) (speaks : Speaks lang) where
   reached text from (repeat_read {p = p} {os = os} {u = u} before is (rest, stands)) =
       let h = reached text from before in
       reaches_on text from p (length u) os os after_unit after_repeat (u ++ rest) h stands
-      (subst (λ x. Goes from p (u ++ rest) h.nest (length u) x after_repeat) h.openers
-      (repeat_goes is from p rest h.nest.below h.nest.top.opener h.nest.top.place h.nest.top.arms h.nest.top.parts h.nest.last h.sound h.mark))
+      (rw h.openers at (repeat_goes is from p rest h.nest.below h.nest.top.opener h.nest.top.place h.nest.top.arms h.nest.top.parts h.nest.last h.sound h.mark))
   reached text from (bar_read {p = p} {os = os} {m = m} before (rest, stands)) =
       let h = reached text from before in
       reaches_on text from p 1 os os m at_start (124 ∷ rest) h stands
@@ -188,7 +187,7 @@ module _ (lang : Dialect) (speaks : Speaks lang) where
   -- a fault that the step meets is the answer
   stops_here : (text : List ℕ) (from p : ℕ) (os : List Opening) (m : Mark) (here : List ℕ) (e : FormulaFault) (h : Reaches text from p os m) →
       drop p text ≡ here → step lang p here h.nest ≡ stops (Err e) → Reading lang text from (Err e)
-  stops_here text from p os m here e h stands is = h.goes_on (Err e) (0, subst (λ t. step lang p t h.nest ≡ stops (Err e)) (sym stands) is)
+  stops_here text from p os m here e h stands is = h.goes_on (Err e) (0, rw stands is)
 
   brace_at_start : (p : ℕ) (found : Option Bounds) (below : List Frame) (top : Frame) →
       braces p found (record { below = below; top = top; last = start }) ≡ stops (Err (Unexpected p))

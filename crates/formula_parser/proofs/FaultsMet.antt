@@ -51,7 +51,7 @@ module _ (lang : Dialect) (speaks : Speaks lang) where
       Reads (alphabet_of lang) text from p (openings below opener place) (mark_of last) →
       Meets text from p (goes len (with_unit f (at_piece below opener place arms parts last)))
   unit_meets text from p g after len f below opener place arms parts last stands takes is sound reads =
-      (sound, subst (λ k. Reads (alphabet_of lang) text from (p + k) (openings below opener place) after_unit) (sym takes) (unit_read reads stands is))
+      (sound, rw takes (unit_read reads stands is))
 
   escape_meets : (text : List ℕ) (from p : ℕ) (s : List ℕ) (below : List Frame) (opener : Opener) (place : ℕ) (arms parts : List Tree) (last : Last)
       (found : ElemToken) → escape_in lang p s ≡ found → drop p text ≡ 92 ∷ s → IsSound from below opener place →
@@ -88,7 +88,7 @@ module _ (lang : Dialect) (speaks : Speaks lang) where
       Meets text from p (repeats p len least most (at_piece below opener place arms parts last))
   repeat_meets text from p c u after len least most below opener place arms parts start sign here stands takes is sound reads = nothing_to_repeat reads sign here
   repeat_meets text from p c u after len least most below opener place arms parts (unit f) sign here stands takes is sound reads =
-      (sound, subst (λ k. Reads (alphabet_of lang) text from (p + k) (openings below opener place) after_repeat) (sym takes) (repeat_read reads is (after, stands)))
+      (sound, rw takes (repeat_read reads is (after, stands)))
   repeat_meets text from p c u after len least most below opener place arms parts (repeated f) sign here stands takes is sound reads = repeat_twice reads sign here
 
   same_tail : (b : ℕ) (x y : List ℕ) → b ∷ x ≡ b ∷ y → x ≡ y
@@ -160,7 +160,7 @@ module _ (lang : Dialect) (speaks : Speaks lang) where
       (λ other.
       let variable = variable_of x name other in
       opens_meets text from p (length x + 2) (capture x) below opener place arms parts last tt few sound
-      (λ room. subst (λ k. Reads (alphabet_of lang) text from (p + k) ((capture x, p) ∷ openings below opener place) at_start) (head_length x)
+      (λ room. rw (← head_length x)
       (head_read reads room variable (h.0, here)))
       (λ deep. capture_too_deep reads deep x variable (h.0, here))))
       (λ long. name_too_long reads stands x h (long_word x h.2 long))
@@ -249,7 +249,7 @@ module _ (lang : Dialect) (speaks : Speaks lang) where
   pub meets_here : (text : List ℕ) (from p : ℕ) (rest : List ℕ) (n : Nest) → drop p text ≡ rest → IsSound from n.below n.top.opener n.top.place →
       Reads (alphabet_of lang) text from p (openings n.below n.top.opener n.top.place) (mark_of n.last) → Meets text from p (step lang p rest n)
   meets_here text from p [] n stands sound reads =
-      subst (λ x. HasFaultOver (alphabet_of lang) text from (Unclosed x)) (sym (place_is_innermost from _ n.below n.top.opener n.top.place sound refl)) (text_ends reads stands)
+      rw (place_is_innermost from _ n.below n.top.opener n.top.place sound refl) (text_ends reads stands)
   meets_here text from p (c ∷ s) n stands sound reads =
       meets (byte_of c) text from p s n.below n.top.opener n.top.place n.top.arms n.top.parts n.last stands
       (omega (arith, count_openings n.below n.top.opener n.top.place, reads_few text from reads)) sound reads
@@ -260,12 +260,12 @@ module _ (lang : Dialect) (speaks : Speaks lang) where
       subst (Meets text from p) ends (meets_here text from p (drop p text) n refl sound reads)
   fault_from (suc k) text from p n e sound reads (len, m, is, ends) =
       let g : Meets text from p (goes len m) = subst (Meets text from p) is (meets_here text from p (drop p text) n refl sound reads) in
-      fault_from k text from (p + len) m e g.0 g.1 (subst (λ t. EndsAfter lang k (p + len) t m (Err e)) (drop-drop len p text) ends)
+      fault_from k text from (p + len) m e g.0 g.1 (rw (← drop-drop len p text) ends)
 
   -- reading begins at the formula's first byte
   first_read : (text : List ℕ) (from : ℕ) (tied : Bool) → is_tied text from ≡ tied → Reads (alphabet_of lang) text from (start_at text from) [] at_start
-  first_read text from false e = subst (λ p. Reads (alphabet_of lang) text from p [] at_start) (plain_start text from e) (slash_read e)
-  first_read text from true e = subst (λ p. Reads (alphabet_of lang) text from p [] at_start) (tied_start text from e) (tie_read (byte_front 94 (drop (from + 1) text) e))
+  first_read text from false e = rw (← plain_start text from e) (slash_read e)
+  first_read text from true e = rw (← tied_start text from e) (tie_read (byte_front 94 (drop (from + 1) text) e))
 
   -- What reading answers is a fault.
   pub ends_fault : (text : List ℕ) (from : ℕ) (e : FormulaFault) → Reading lang text from (Err e) → HasFaultOver (alphabet_of lang) text from e

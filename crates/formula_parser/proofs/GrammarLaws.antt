@@ -76,7 +76,7 @@ module _ (lang : Dialect) (speaks : Speaks lang) where
       let place = begin + length t + end_len e in
       let ends = reads_spelled lang speaks t fs e v begin from alt in (
         ((alt_tree fs, e), place),
-        subst (λ y. Ends lang begin y (outermost from) (Ok ((alt_tree fs, e), place))) (sym rest) ends,
+        rw rest ends,
         same_atom x (atom_read (is_tied text from) (alt_tree fs, e), place) (sym tied) refl tree
             (omega (arith, after, ap length text_is, length-append (given s 94) (t ++ given e 36), length-append t (given e 36), given_len s 94, given_len e 36, end_is e, ap tie_len tied)),
       )

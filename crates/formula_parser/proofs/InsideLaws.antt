@@ -39,7 +39,7 @@ run_inside p apart (c ∷ t) all =
     signs.lone far.0 far.1 (run_inside p apart t parts.1)
 
 name_apart : (c : ℕ) → is_name_byte c ≡ true → (c ≢ 47) × (c ≢ 92)
-name_apart c h = (λ e. by47 (subst (λ k. is_name_byte k ≡ true) e h), λ e. by92 (subst (λ k. is_name_byte k ≡ true) e h))
+name_apart c h = (λ e. by47 (rw e at h), λ e. by92 (rw e at h))
   where
     by47 : is_name_byte 47 ≡ true → ⊥
     by47 f = absurd (cc)
@@ -48,7 +48,7 @@ name_apart c h = (λ e. by47 (subst (λ k. is_name_byte k ≡ true) e h), λ e. 
     by92 f = absurd (cc)
 
 tail_apart : (c : ℕ) → is_tail c ≡ true → (c ≢ 47) × (c ≢ 92)
-tail_apart c h = (λ e. by47 (subst (λ k. is_tail k ≡ true) e h), λ e. by92 (subst (λ k. is_tail k ≡ true) e h))
+tail_apart c h = (λ e. by47 (rw e at h), λ e. by92 (rw e at h))
   where
     by47 : is_tail 47 ≡ true → ⊥
     by47 f = absurd (cc)
@@ -57,7 +57,7 @@ tail_apart c h = (λ e. by47 (subst (λ k. is_tail k ≡ true) e h), λ e. by92 
     by92 f = absurd (cc)
 
 digit_apart : (c : ℕ) → is_digit c ≡ true → (c ≢ 47) × (c ≢ 92)
-digit_apart c h = (λ e. by47 (subst (λ k. is_digit k ≡ true) e h), λ e. by92 (subst (λ k. is_digit k ≡ true) e h))
+digit_apart c h = (λ e. by47 (rw e at h), λ e. by92 (rw e at h))
   where
     by47 : is_digit 47 ≡ true → ⊥
     by47 f = absurd (cc)

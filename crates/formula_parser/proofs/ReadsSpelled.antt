@@ -182,7 +182,7 @@ module _ (lang : Dialect) (speaks : Speaks lang) where
   pub ends_token : (at : ℕ) (u rest : List ℕ) (n m : Nest) (r : Answer) → step lang at (u ++ rest) n ≡ goes (length u) m →
       Ends lang (at + length u) rest m r → Ends lang at (u ++ rest) n r
   ends_token at u rest n m r is ends =
-      ends_more lang speaks at (length u) (u ++ rest) n m r is (subst (λ x. Ends lang (at + length u) x m r) (sym (after_token u rest)) ends)
+      ends_more lang speaks at (length u) (u ++ rest) n m r is (rw (after_token u rest) ends)
 
   mutual
     pub reads_alt : {room : ℕ} {t rest : List ℕ} {fs : List Tree} → SpellsAlt (alphabet_of lang) room t fs rest → (r : Answer) (at : ℕ)

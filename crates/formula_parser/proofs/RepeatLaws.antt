@@ -53,7 +53,7 @@ number_is t x e = by (nat_le 1 (length d) && nat_le (length d) 4 && nat_le (valu
         let third = outer.1 in
         let r = run_of is_digit t in
         let pair : (value_after 0 d, length d) ≡ x = cc in
-        subst (λ y. NumberText t y.0 y.1) pair (record {
+        rw (← pair) (record {
           text = d;
           rest = r.rest;
           splits = r.splits;
@@ -179,8 +179,7 @@ are_bounds t None e = tt
 are_bounds t (Some m) e =
     let n = number_is t m e in
     let others : drop m.1 t ≡ n.rest = ap (λ y. drop y t) n.takes ∙ ap (drop (length n.text)) n.splits ∙ after_token n.text n.rest in
-    subst (λ y. AreBounds t (rest_at m.0 y (drop m.1 t))) (sym n.takes)
-    (subst (λ y. AreBounds t (rest_at m.0 (length n.text) y)) (sym others) (rest_bounds t n.text n.rest m.0 n.is n.splits))
+    rw (← n.takes) at (subst (λ y. AreBounds t (rest_at m.0 (length n.text) y)) (sym others) (rest_bounds t n.text n.rest m.0 n.is n.splits))
 
 pub bounds_is : (t : List ℕ) (b : Bounds) → bounds_at t ≡ Some b → BoundsText t b
 unfolding AreBounds

@@ -105,9 +105,9 @@ lone_told at c t (Some k) slash back (h, place) = (lone_closed c t slash back h,
 
 pair_told : (at c b : ℕ) (t : List ℕ) (found : Option ℕ) → b ≡ 92 → Tells (at + 2) t found → Tells at (b ∷ c ∷ t) found
 unfolding Tells
-pair_told at c b t None e unclosed = subst (λ k. IsOpenText (k ∷ c ∷ t)) (sym e) (λ h. unclosed (pair_opened c t h.inside h.after h.is h.splits))
+pair_told at c b t None e unclosed = rw e (λ h. unclosed (pair_opened c t h.inside h.after h.is h.splits))
 pair_told at c b t (Some k) e (h, place) =
-    subst (λ n. Tells at (n ∷ c ∷ t) (Some k)) (sym e) (pair_closed c t h, omega (arith, place))
+    rw e (pair_closed c t h, omega (arith, place))
 
 pub closing_told : (at : ℕ) (t : List ℕ) → Tells at t (closing_from at t)
 unfolding Tells closing_from
@@ -116,7 +116,7 @@ closing_told at (c ∷ []) = by (c == 47) refl (c == 92) refl
   where
     by : (a : Bool) → (c == 47) ≡ a → (b : Bool) → (c == 92) ≡ b → Tells at (c ∷ []) (if a then Some at else None)
     by true e b f = (slash_closed c [] (grind (arith, nat_tests)), omega arith)
-    by false e true f = subst (λ k. IsOpenText (k ∷ [])) (let is : 92 ≡ c = grind (arith, nat_tests) in is) alone_open
+    by false e true f = rw (← (let is : 92 ≡ c = grind (arith, nat_tests) in is)) alone_open
     by false e false f = λ h. empty_open (lone_opened c [] h.inside h.after (grind (arith, nat_tests)) (grind (arith, nat_tests)) h.is h.splits)
 closing_told at (c ∷ d ∷ t) = by (c == 47) refl (c == 92) refl (closing_told (at + 2) t) (closing_told (at + 1) (d ∷ t))
   where

@@ -42,10 +42,10 @@ module _ (lang : Dialect) (speaks : Speaks lang) where
         SpellsArms room (t ++ (u ++ 124 ∷ [])) (gs ++ seq_tree fs ∷ []) after
 
   alt_at : {room : ℕ} {after : List ℕ} (t u : List ℕ) (fs gs : List Tree) → t ≡ u → fs ≡ gs → SpellsAlt (alphabet_of lang) room t fs after → SpellsAlt (alphabet_of lang) room u gs after
-  alt_at {room = room} {after = after} t u fs gs e d h = subst (λ x. SpellsAlt (alphabet_of lang) room x gs after) e (subst (λ x. SpellsAlt (alphabet_of lang) room t x after) d h)
+  alt_at {room = room} {after = after} t u fs gs e d h = rw (← e) (rw (← d) h)
 
   seq_at : {room : ℕ} {fs : List Tree} {after : List ℕ} (t u : List ℕ) → t ≡ u → SpellsSeq (alphabet_of lang) room t fs after → SpellsSeq (alphabet_of lang) room u fs after
-  seq_at {room = room} {fs = fs} {after = after} t u e h = subst (λ x. SpellsSeq (alphabet_of lang) room x fs after) e h
+  seq_at {room = room} {fs = fs} {after = after} t u e h = rw (← e) h
 
   -- the same before an equal text
   seq_before : {room : ℕ} {t : List ℕ} {fs : List Tree} (a b : List ℕ) → a ≡ b → SpellsSeq (alphabet_of lang) room t fs a → SpellsSeq (alphabet_of lang) room t fs b
@@ -138,7 +138,7 @@ module _ (lang : Dialect) (speaks : Speaks lang) where
       SpellsAlt (alphabet_of lang) room t (arms ++ seq_tree (held parts last) ∷ []) after
   whole_spelled {room = room} t arms parts last after h =
       let rest = h.parts_text ++ h.last_text in
-      subst (λ x. SpellsAlt (alphabet_of lang) room x (arms ++ seq_tree (held parts last) ∷ []) after) (sym h.text)
+      rw h.text
       (arms_and h.arms_are rest after (seq_tree (held parts last) ∷ []) (sym (append_assoc h.parts_text h.last_text after))
       (lone_arm (held_spelled h.parts_text h.last_text after parts last h.parts_are h.last_is)))
 
@@ -208,7 +208,7 @@ module _ (lang : Dialect) (speaks : Speaks lang) where
           arms_text = arm;
           parts_text = [];
           last_text = [];
-          arms_are = subst (λ x. SpellsArms room arm (arms ++ x ∷ []) after) (sym (whole_seq_is parts last i.fresh))
+          arms_are = rw (whole_seq_is parts last i.fresh)
               (arm_and (arms_before (i.parts_text ++ (i.last_text ++ 124 ∷ after)) ((i.parts_text ++ i.last_text) ++ 124 ∷ after)
               (sym (append_assoc i.parts_text i.last_text (124 ∷ after))) i.arms_are)
               (held_spelled i.parts_text i.last_text (124 ∷ after) parts last i.parts_are i.last_is));
@@ -279,14 +279,14 @@ module _ (lang : Dialect) (speaks : Speaks lang) where
       IsOpen (suc room) (t ++ 41 ∷ []) below f.opener f.arms f.parts (unit (whole_alt arms (whole_seq parts last))) after
   group_read {room = room} t after f below arms parts last o =
       close_read t after f below group arms parts last 41 (whole_alt arms (whole_seq parts last)) o
-      (λ u alt. subst (λ x. SpellsUnit (alphabet_of lang) (suc room) (40 ∷ (u ++ 41 ∷ [])) x after) (sym (whole_tree arms parts last o.inside.fresh)) (group_of alt))
+      (λ u alt. rw (whole_tree arms parts last o.inside.fresh) (group_of alt))
 
   capture_read : {room : ℕ} (t after : List ℕ) (f : Frame) (below : List Frame) (x : List ℕ) (arms parts : List Tree) (last : Last) →
       IsOpen room t (f ∷ below) (capture x) arms parts last (125 ∷ after) →
       IsOpen (suc room) (t ++ 125 ∷ []) below f.opener f.arms f.parts (unit (cap x (whole_alt arms (whole_seq parts last)))) after
   capture_read {room = room} t after f below x arms parts last o =
       close_read t after f below (capture x) arms parts last 125 (cap x (whole_alt arms (whole_seq parts last))) o
-      (λ u alt. subst (λ y. SpellsUnit (alphabet_of lang) (suc room) (head_text x ++ (u ++ 125 ∷ [])) (cap x y) after) (sym (whole_tree arms parts last o.inside.fresh))
+      (λ u alt. rw (whole_tree arms parts last o.inside.fresh)
       (capture_of o.outside.2 alt))
 
   abbrev pub IsOpenNest : ℕ → List ℕ → Nest → List ℕ → Type 0
@@ -313,7 +313,7 @@ module _ (lang : Dialect) (speaks : Speaks lang) where
       let token : take len rest ≡ g = ap (λ n. take n rest) takes ∙ ap (take (length g)) splits ∙ the_token g after in
       let others : drop len rest ≡ after = ap (λ n. drop n rest) takes ∙ ap (drop (length g)) splits ∙ after_token g after in (
         room,
-        subst (λ y. IsOpenNest room (t ++ take len rest) m y) (sym others) (subst (λ y. IsOpenNest room (t ++ y) m after) (sym token) o),
+        rw others (rw token o),
         omega (arith, takes, ap length splits, length-append g after),
       )
 
@@ -357,7 +357,7 @@ module _ (lang : Dialect) (speaks : Speaks lang) where
       let one : room ≡ suc (room - 1) = omega arith in
       grown (room - 1) t rest (opener_text inner) after len (opened inner at n) splits takes
       (open_read t after below opener place arms parts last inner is
-      (subst (λ x. IsOpen x t below opener arms parts last (opener_text inner ++ after)) one (subst (IsOpen room t below opener arms parts last) splits o))))
+      (rw (← one) (subst (IsOpen room t below opener arms parts last) splits o))))
       (λ full. tt)
 
   bang_grows : (at : ℕ) (s : List ℕ) (room : ℕ) (t : List ℕ) (below : List Frame) (opener : Opener) (place : ℕ) (arms parts : List Tree) (last : Last)
@@ -405,8 +405,8 @@ module _ (lang : Dialect) (speaks : Speaks lang) where
       let text : t ≡ o.inside_text = o.text ∙ ap (λ x. x ++ o.inside_text) o.outside.2 in
       let spelled = whole_spelled o.inside_text arms parts last after i in (
         arms ++ seq_tree (held parts last) ∷ [],
-        subst (λ x. SpellsAlt (alphabet_of lang) x t (arms ++ seq_tree (held parts last) ∷ []) after) o.outside.1
-            (subst (λ x. SpellsAlt (alphabet_of lang) room x (arms ++ seq_tree (held parts last) ∷ []) after) (sym text) spelled),
+        rw (← o.outside.1)
+            (rw text spelled),
         whole_tree arms parts last i.fresh,
       )
 
@@ -478,7 +478,7 @@ module _ (lang : Dialect) (speaks : Speaks lang) where
       EndsAfter lang k at rest n (Ok x) → (u : List ℕ) × (v : List ℕ) × (rest ≡ u ++ (given x.0.1 36 ++ 47 ∷ v)) × SpellsBody (t ++ u) x.0 v × (x.1 ≡ at + length u + end_len x.0.1)
   spelled_from zero at rest room t n x o ends =
       let g : Grows t rest (stops (Ok x.0)) = subst (Grows t rest) ends.0 (grows_here at rest room t n o) in
-      ([], g.0, g.1, subst (λ y. SpellsBody y x.0 g.0) (sym (append-nil t)) g.2, ends.1 ∙ omega arith)
+      ([], g.0, g.1, rw (append-nil t) g.2, ends.1 ∙ omega arith)
   spelled_from (suc k) at rest room t n x o (len, m, is, ends) =
       let g : Grows t rest (goes len m) = subst (Grows t rest) is (grows_here at rest room t n o) in
       let r = spelled_from k (at + len) (drop len rest) g.0 (t ++ take len rest) m x g.1 ends in
@@ -486,7 +486,7 @@ module _ (lang : Dialect) (speaks : Speaks lang) where
         front ++ r.0,
         r.1,
         sym (take-append-drop len rest) ∙ ap (λ y. front ++ y) r.2 ∙ sym (append_assoc front r.0 (given x.0.1 36 ++ 47 ∷ r.1)),
-        subst (λ y. SpellsBody y x.0 r.1) (append_assoc t front r.0) r.3,
+        rw (← append_assoc t front r.0) r.3,
         r.4 ∙ omega (arith, length-append front r.0, length-take len rest, g.2),
       )
 

@@ -22,8 +22,8 @@ module _ (lang : Dialect) (speaks : Speaks lang) where
   pub ends_on : (at len : ℕ) (text rest : List ℕ) (n m : Nest) (r : Answer) → rest ≡ drop at text →
       step lang at rest n ≡ goes len m → Ends lang (at + len) (drop (at + len) text) m r → Ends lang at (drop at text) n r
   ends_on at len text rest n m r from is ends =
-      ends_more at len (drop at text) n m r (subst (λ t. step lang at t n ≡ goes len m) from is)
-      (subst (λ t. Ends lang (at + len) t m r) (sym (drop-drop len at text)) ends)
+      ends_more at len (drop at text) n m r (rw (← from) is)
+      (rw (drop-drop len at text) ends)
 
   -- two answers of one reading are the same
   pub one_end : (k l at : ℕ) (text : List ℕ) (n : Nest) (r s : Answer) → EndsAfter lang k at text n r → EndsAfter lang l at text n s → r ≡ s
@@ -43,4 +43,4 @@ module _ (lang : Dialect) (speaks : Speaks lang) where
       let same_len : len ≡ len' = cc in
       let same : m ≡ m' = cc in
       one_end k l (at + len) (drop len text) m r s a
-      (subst (λ x. EndsAfter lang l (at + len) (drop len text) x s) (sym same) (subst (λ x. EndsAfter lang l (at + x) (drop x text) m' s) (sym same_len) b))
+      (rw same (rw same_len b))

@@ -42,23 +42,23 @@ fails lang e at text n m P is next = next (Err e) (0, is)
 pub fails_on : (lang : Dialect) (e : FormulaFault) (at : ℕ) (text rest : List ℕ) (n m : Nest) (P : Result (Body × ℕ) FormulaFault → Type 0) →
     rest ≡ drop at text →
     IsStep (Err e) (step lang at rest n) m → ((r : Result (Body × ℕ) FormulaFault) → Ends lang at (drop at text) n r → P r) → AnswersBody (Err e) P
-fails_on lang e at text rest n m P from is next = fails lang e at (drop at text) n m P (subst (λ t. IsStep (Err e) (step lang at t n) m) from is) next
+fails_on lang e at text rest n m P from is next = fails lang e at (drop at text) n m P (rw (← from) is) next
 
 -- the formula begins within the text
 pub start_within : (text : List ℕ) (from : ℕ) → from < length text → start_at text from ≤ length text
 start_within text from some = by (is_tied text from) refl
   where
     by : (b : Bool) → is_tied text from ≡ b → start_at text from ≤ length text
-    by false e = subst (λ p. p ≤ length text) (plain_start text from e) (omega arith)
+    by false e = rw (← plain_start text from e) (omega arith)
     by true e =
         let front = byte_front 94 (drop (from + 1) text) e in
-        subst (λ p. p ≤ length text) (tied_start text from e) (omega (arith, length-drop (from + 1) text, ap length front.1))
+        rw (← tied_start text from e) (omega (arith, length-drop (from + 1) text, ap length front.1))
 
 -- what is read on from the formula's start, where nothing is open, is the reading of the atom
 pub reads_from_start : (lang : Dialect) (text : List ℕ) (from at : ℕ) (n : Nest) (r : Result (Atom × ℕ) FormulaFault) → at ≡ start_at text from → n ≡ outermost from →
     AnswersBody r (Ends lang at (drop at text) n) → AnswersBody r (Reading lang text from)
 reads_from_start lang text from at n r here empty ends =
-    subst (λ p. AnswersBody r (Ends lang p (drop p text) (outermost from))) here (subst (λ m. AnswersBody r (Ends lang at (drop at text) m)) empty ends)
+    rw here at (rw empty at ends)
 
 -- what the code returns, over one alphabet
 pub answer_found : (lang : Dialect) → Speaks lang → (text : List ℕ) (from : ℕ) (r : Result (Atom × ℕ) FormulaFault) → AnswersBody r (Reading lang text from) →

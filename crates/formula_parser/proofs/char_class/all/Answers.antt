@@ -8,10 +8,10 @@ use Rattle.formula_parser.proofs.char_class.all.Goals as goal
 
 pub returns-in_ok-with_elem-in-Elem : goal.returns-in_ok-with_elem-in-Elem
 returns-in_ok-with_elem-in-Elem c = λ s w items.
-    let (y, is, last) = subst (λ l. IsLastOf l w) c.in-Elem.is items.1 in
+    let (y, is, last) = rw c.in-Elem.is at items.1 in
     (set.union s (elem_set y), c.in_ok-with_elem-in-Elem.ensures s y items.0 is, ap (takes_end c.args.at s) last)
 
 pub returns-in-Range : goal.returns-in-Range
 returns-in-Range c = λ s w items.
-    let last : w ≡ after_range = subst (λ l. IsLastOf l w) c.in-Range.is items.1 in
+    let last : w ≡ after_range = rw c.in-Range.is at items.1 in
     (s, items.0, ap (takes_end c.args.at s) last)

@@ -8,8 +8,8 @@ use Rattle.formula_parser.proofs.char_class.chosen.Goals as goal
 
 pub returns-then-negated : goal.returns-then-negated
 returns-then-negated c =
-    subst (λ b. IfOk c.negation.result (λ new. (s : Bytes) → Holds c.args.items s → Holds new (chosen_set b s))) (sym c.if-negated.true)
+    rw c.if-negated.true
     (negation_chosen c.args.items _ c.negation.result c.negation.ensures)
 
 pub returns : goal.returns
-returns c = λ s holds. subst (λ b. Holds c.args.items (chosen_set b s)) (sym c.if-negated.false) (holds_members c.args.items s holds)
+returns c = λ s holds. rw c.if-negated.false (holds_members c.args.items s holds)

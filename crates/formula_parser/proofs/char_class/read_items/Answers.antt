@@ -17,7 +17,7 @@ loop-items-init c = record {
   same = λ trees are. (
     set.empty,
     no_item,
-    (subst (λ r. Holds r set.empty) (sym c.none.ensures) holds_none, refl),
+    (rw c.none.ensures holds_none, refl),
     ap (λ q. items_at (with_characters trees) c.args.negated c.args.from 0 q c.args.text.now set.empty no_item) (omega arith),
   );
 }

@@ -13,4 +13,4 @@ pub returns-in-Some : goal.returns-in-Some
 returns-in-Some c = λ trees are.
     let holds = holds_others c.in_ok-others.others c.in_ok-newline.newline (single 10) c.in_ok-newline.ensures c.in_ok-others.ensures in
     let told = rw c.in-Some.is at c.in_ok-formula.ensures trees are (dot_set of_characters) holds (dot_in of_characters) in
-    subst (λ t. IsStep c.unit.result (goes 1 (with_unit t (nest_of c.args.nest.now))) (nest_of c.unit.new.nest)) told.1 c.unit.ensures
+    rw (← told.1) c.unit.ensures

@@ -14,7 +14,7 @@ use Rattle.formula_parser.proofs.reader.read_nest.Goals as goal
 pub read_by_turns-requires : goal.read_by_turns-requires
 read_by_turns-requires c =
     let h = slice_get_within c.args.text.now c.args.from 47 c.requires.slash in
-    subst (λ p. p ≤ length c.args.text.now) (sym c.start_at.ensures) (start_within c.args.text.now c.args.from h)
+    rw c.start_at.ensures (start_within c.args.text.now c.args.from h)
 
 pub returns-clause-found : goal.returns-clause-found
 returns-clause-found c =
@@ -32,7 +32,7 @@ returns-clause-fault c =
     let text = c.args.text.now in
     let from = c.args.from in
     let some = some_dialect (alphabet_seen c.args.alphabet) in
-    subst (λ a. IfErr c.read_by_turns.result (λ e. (e ≡ OutOfMemory) ⊎ HasFaultOver a text from e)) some.2
+    rw (← some.2)
     (answer_fault some.0 some.1 text from c.read_by_turns.result
     (reads_from_start some.0 text from _ _ c.read_by_turns.result c.start_at.ensures c.requires.nest (c.read_by_turns.ensures.ends some.0 some.1 some.2)))
 
