@@ -1,16 +1,16 @@
 -- Lines of a reader, of which some bytes are read ahead.
-use Rattle.std.proofs.Common.{arith, ◌≡◌, ◌≢◌, ◌+◌, ◌-◌, ◌<◌, ◌≤◌, ℕ, suc, Bool, true, false, List, [], ◌∷◌, ◌++◌, length, take, drop, Option, None, Some, Ok, inl, inr, refl, sym, ap, ◌∙◌, subst, append_assoc, append-nil, length-append, length-take, length-drop, take-append-drop}
+use Rattle.std.proofs.Common.{arith, ◌≡◌, ◌≢◌, ◌+◌, ◌-◌, ◌<◌, ◌≤◌, ℕ, suc, Bool, true, false, List, [], ◌∷◌, ◌++◌, length, take, drop, Option, None, Some, Ok, refl, sym, ap, ◌∙◌, subst, append_assoc, append-nil, length-append, length-take, length-drop}
 use Rattle.std.specs.Prelude.{nat_lt}
-use Rattle.std.specs.Bool.{OnFalse}
-use Rattle.std.proofs.lemmas.List.{drop-take, drop-drop}
+use Rattle.std.proofs.lemmas.List.{drop-take, drop-drop, take-take, take_at}
 use Rattle.std.proofs.lemmas.Bool.{ltb-true, ltb-false}
 use Rattle.std.proofs.KnownBytes.{Consumes-kept, Consumes-trans}
-use Rattle.std.specs.Io.KnownBytes.{Consumes, IsAtEnd, Keeps, prepend_known}
+use Rattle.std.specs.Io.KnownBytes.{Consumes, IsAtEnd, Keeps}
 use Rattle.rm_outside.specs.declared.source.LineFault.{LineFault}
 use Rattle.rm_outside.specs.declared.source.LineFault.TheVariants.{Failed, TooLong, OutOfMemory}
 use Rattle.rm_outside.specs.Source.{AsksLine, HasNoEnd, IsNextLong, IsSpent, LineTaken, NextLine, TakesLine, ended, last}
 use Rattle.rm_outside.specs.LineInput.{BeginsLong, IsLineFault, IsPartFault, TakesPart, left_of}
-use Rattle.rm_outside.proofs.LineLaws.{first_inside, line_ends, line_is, line_of, no_end, some_next}
+use Rattle.rm_outside.proofs.LineLaws.{first_inside, line_of, some_next}
+use Rattle.rm_outside.proofs.PartLaws.{begins_long, part_whole, part_within}
 
 -- ---- in what was read ahead
 
@@ -26,67 +26,32 @@ window_less s e k xs small =
 window_length : (s e : ℕ) (xs : List ℕ) → e ≤ length xs → length (window s e xs) ≡ e - s
 window_length s e xs small = let a = length-take (e - s) (drop s xs) in let b = length-drop s xs in omega (arith, a, b)
 
-consumed : (known : Option (List ℕ)) (all part left : List ℕ) → all ≡ part ++ left → Consumes (prepend_known all known) (prepend_known left known) part
-consumed None all part left is = tt
-consumed (Some xs) all part left is = ap (λ (ys : List ℕ). ys ++ xs) is ∙ append_assoc part left xs
+module _ (s e room n : ℕ) (xs held : List ℕ) (known : Option (List ℕ)) (same : held ≡ xs) (is : n ≡ length (line_of (window s e held))) where
+  at_line : n ≡ length (line_of (window s e xs))
+  at_line = is ∙ ap (λ (ys : List ℕ). length (line_of (window s e ys))) same
 
--- more bytes than these have no end
-pub begins_long : (s e room : ℕ) (xs held : List ℕ) (known : Option (List ℕ)) (n : ℕ) → held ≡ xs → n ≡ length (line_of (window s e held)) → room < n → BeginsLong room (left_of s e xs known)
-begins_long s e room xs held known n same is long =
-    let all = window s e xs in
-    let at : n ≡ length (line_of all) = is ∙ ap (λ (ys : List ℕ). length (line_of (window s e ys))) same in
-    let whole : all ≡ line_of all ++ drop (length (line_of all)) all = sym (take-append-drop (length (line_of all)) all) ∙ ap (λ (ys : List ℕ). ys ++ drop (length (line_of all)) all) (line_is all) in
-    (line_of all, prepend_known (drop (length (line_of all)) all) known, no_end all, consumed known all (line_of all) (drop (length (line_of all)) all) whole, omega arith)
+  -- more bytes than these have no end
+  pub window_long : room < n → BeginsLong room (left_of s e xs known)
+  window_long long = begins_long room n (window s e xs) known at_line long
 
-module _ (s e room n : ℕ) (xs held before after : List ℕ) (known : Option (List ℕ)) where
+  put_there : (before after : List ℕ) → after ≡ before ++ take n (window s e held) → after ≡ before ++ take n (window s e xs)
+  put_there before after put = put ∙ ap (λ (ys : List ℕ). before ++ take n (window s e ys)) same
+
   -- a part with its end
-  pub part_ended : held ≡ xs → e ≤ length xs → n ≡ length (line_of (window s e held)) → n ≤ room → s + n < e → after ≡ before ++ take n (window s e held) →
+  pub part_ended : (before after : List ℕ) → e ≤ length xs → n ≤ room → s + n < e → after ≡ before ++ take n (window s e held) →
       TakesPart room (left_of s e xs known) (left_of (s + n + 1) e xs known) before after n true
-  part_ended same within is few inside put =
-      let all = window s e xs in
-      let line = line_of all in
-      let at : n ≡ length line = is ∙ ap (λ (ys : List ℕ). length (line_of (window s e ys))) same in
-      let size = window_length s e xs within in
+  part_ended before after within few inside put =
       let sum : s + n + 1 ≡ s + suc n = omega arith in
-      let left : window (s + n + 1) e xs ≡ drop (suc n) all = ap (λ (k : ℕ). window k e xs) sum ∙ window_less s e (suc n) xs (omega arith) in
-      let whole : all ≡ line ++ 10 ∷ drop (suc n) all = elim (line_ends all) [
-        | inl is ↦ is ∙ ap (λ (k : ℕ). line ++ 10 ∷ drop (suc k) all) (sym at)
-        | inr is ↦ (let long : length all ≡ length line = ap (λ (ys : List ℕ). length ys) is in absurd (omega (arith, long, size, at, inside)))
-      ] in
-      let joined : all ≡ (line ++ 10 ∷ []) ++ window (s + n + 1) e xs = whole ∙ ap (λ (ys : List ℕ). line ++ 10 ∷ ys) (sym left) ∙ sym (append_assoc line (10 ∷ []) (window (s + n + 1) e xs)) in
-      let taken : take n (window s e held) ≡ line = ap (λ (ys : List ℕ). take n (window s e ys)) same ∙ ap (λ (k : ℕ). take k all) at ∙ line_is all in
-      record {
-        part = line;
-        counted = sym at;
-        few = few;
-        inside = no_end all;
-        appended = put ∙ ap (λ (ys : List ℕ). before ++ ys) taken;
-        taken = consumed known all (line ++ 10 ∷ []) (window (s + n + 1) e xs) joined;
-        some = λ no. absurd (cc);
-      }
+      let left : window (s + n + 1) e xs ≡ drop (suc n) (window s e xs) = ap (λ (k : ℕ). window k e xs) sum ∙ window_less s e (suc n) xs (omega arith) in
+      part_within room n (window s e xs) (window (s + n + 1) e xs) before after known at_line few (put_there before after put) (omega (arith, window_length s e xs within)) left
 
   -- all that was read ahead
-  pub part_open : held ≡ xs → e ≤ length xs → n ≡ length (line_of (window s e held)) → n ≤ length (window s e held) → n ≤ room → s < e → e ≤ s + n → after ≡ before ++ take n (window s e held) →
+  pub part_open : (before after : List ℕ) → e ≤ length xs → n ≤ length (window s e held) → n ≤ room → s < e → e ≤ s + n → after ≡ before ++ take n (window s e held) →
       TakesPart room (left_of s e xs known) (left_of (s + n) e xs known) before after n false
-  part_open same within is small few some past put =
-      let all = window s e xs in
-      let line = line_of all in
-      let at : n ≡ length line = is ∙ ap (λ (ys : List ℕ). length (line_of (window s e ys))) same in
-      let size = window_length s e xs within in
-      let few_there : n ≤ length all = subst (λ (ys : List ℕ). n ≤ length (window s e ys)) same small in
-      let left : window (s + n) e xs ≡ drop n all = window_less s e n xs (omega (arith, size, few_there)) in
-      let taken : take n all ≡ line = ap (λ (k : ℕ). take k all) at ∙ line_is all in
-      let joined : all ≡ (line ++ []) ++ window (s + n) e xs = sym (take-append-drop n all) ∙ ap (λ (ys : List ℕ). ys ++ drop n all) taken ∙
-      ap (λ (ys : List ℕ). ys ++ drop n all) (sym (append-nil line)) ∙ ap (λ (ys : List ℕ). (line ++ []) ++ ys) (sym left) in
-      record {
-        part = line;
-        counted = sym at;
-        few = few;
-        inside = no_end all;
-        appended = put ∙ ap (λ (ys : List ℕ). before ++ take n (window s e ys)) same ∙ ap (λ (ys : List ℕ). before ++ ys) taken;
-        taken = consumed known all (line ++ []) (window (s + n) e xs) joined;
-        some = λ no. omega arith;
-      }
+  part_open before after within small few some past put =
+      let few_there : n ≤ length (window s e xs) = rw same at small in
+      let left : window (s + n) e xs ≡ drop n (window s e xs) = window_less s e n xs (omega (arith, window_length s e xs within, few_there)) in
+      part_whole room n (window s e xs) (window (s + n) e xs) before after known at_line few (put_there before after put) (omega arith) left
 
 -- ---- part by part
 
@@ -107,12 +72,12 @@ line_longer : (u more : List ℕ) → HasNoEnd u → length u ≤ length (line_o
 line_longer [] more none = omega arith
 line_longer (b ∷ u) more none = let first = first_inside b (u ++ more) none.0 in let later = line_longer u more none.1 in let e = ap (λ (xs : List ℕ). length xs) first in omega (arith, e, later)
 
-module _ (limit : ℕ) (old mid now : Option (List ℕ)) (before between after : List ℕ) (seen : ℕ) (t : IsTaking limit old mid before between seen) where
-  pub kept_taking : Keeps mid now → IsTaking limit old now before between seen
-  kept_taking k = record { part = t.part; counted = t.counted; few = t.few; inside = t.inside; appended = t.appended; taken = Consumes-kept old mid now t.part t.taken k }
+module _ (limit : ℕ) (old mid : Option (List ℕ)) (before between : List ℕ) (seen : ℕ) (t : IsTaking limit old mid before between seen) where
+  pub kept_taking : (now : Option (List ℕ)) → Keeps mid now → IsTaking limit old now before between seen
+  kept_taking now k = record { part = t.part; counted = t.counted; few = t.few; inside = t.inside; appended = t.appended; taken = Consumes-kept old mid now t.part t.taken k }
 
-  pub more_taken : (count : ℕ) → TakesPart (limit - seen) mid now between after count false → IsTaking limit old now before after (seen + count)
-  more_taken count p =
+  pub more_taken : (now : Option (List ℕ)) (after : List ℕ) (count : ℕ) → TakesPart (limit - seen) mid now between after count false → IsTaking limit old now before after (seen + count)
+  more_taken now after count p =
       let few = p.few in
       let all = t.few in
       let a = t.counted in
@@ -126,8 +91,8 @@ module _ (limit : ℕ) (old mid now : Option (List ℕ)) (before between after :
         taken = Consumes-trans old mid now t.part p.part t.taken (subst (λ (xs : List ℕ). Consumes mid now xs) (append-nil p.part) p.taken);
       }
 
-  pub line_taken : (count : ℕ) → TakesPart (limit - seen) mid now between after count true → LineTaken limit old now before after
-  line_taken count p =
+  pub line_taken : (now : Option (List ℕ)) (after : List ℕ) (count : ℕ) → TakesPart (limit - seen) mid now between after count true → LineTaken limit old now before after
+  line_taken now after count p =
       let few = p.few in
       let all = t.few in
       let a = t.counted in
@@ -179,6 +144,12 @@ module _ (limit : ℕ) (old mid now : Option (List ℕ)) (before between after :
       end_is None e = tt
       end_is (Some ys) e = e
 
+  -- what was cut behind all of these, and then behind those before
+  pub refused_taking : (held held_before : ℕ) (after : List ℕ) → held ≡ length between → held_before ≡ length before → take held after ≡ between → take held_before after ≡ before
+  refused_taking held held_before after size size_before kept =
+      let longer : held_before ≤ held = omega (arith, size, size_before, length-append before t.part, ap (λ (xs : List ℕ). length xs) t.appended) in
+      sym (take-take held_before held after longer) ∙ ap (take held_before) (kept ∙ t.appended) ∙ take_at before t.part held_before (sym size_before)
+
   pub too_long : (e : LineFault) → IsPartFault limit seen mid e → IsLineFault limit old e
   too_long Failed f = tt
   too_long OutOfMemory f = tt
@@ -197,9 +168,3 @@ module _ (limit : ℕ) (old mid now : Option (List ℕ)) (before between after :
           let past : limit < length (line_of xs) = omega (arith, a, all, more, long, least) in
           let next = some_next xs (λ none. (let e = ap (λ (zs : List ℕ). length (line_of zs)) none in omega (arith, e, past))) in
           (line_of xs, next.0, next.1, past)
-
--- ---- in the code's shapes
-
-pub on_false : (b : Bool) (P : Type 0) → b ≡ false → OnFalse b P → P
-on_false true P is h = absurd (cc)
-on_false false P is h = h

@@ -1,7 +1,8 @@
 -- Lines of a reader, of which some bytes are read ahead.
-use Rattle.std.specs.Prelude.{◌≡◌, ℕ, ◌-◌, ◌<◌, ◌≤◌, Bool, true, false, List, [], ◌∷◌, ◌++◌, length, take, drop, Option}
-use Rattle.std.specs.Io.KnownBytes.{Consumes, prepend_known}
+use Rattle.std.specs.Prelude.{◌≡◌, ℕ, ◌-◌, ◌<◌, ◌≤◌, Bool, true, false, List, [], ◌∷◌, ◌++◌, length, take, drop, Option, None, Some}
+use Rattle.std.specs.Io.KnownBytes.{Consumes, IsAtEnd, Keeps, prepend_known}
 use Rattle.rm_outside.specs.Source.{HasNoEnd, IsNextLong}
+use Rattle.rm_outside.specs.declared.line_input.Part.{Part}
 use Rattle.rm_outside.specs.declared.source.LineFault.{LineFault}
 use Rattle.rm_outside.specs.declared.source.LineFault.TheVariants.{Failed, TooLong, OutOfMemory}
 
@@ -24,15 +25,32 @@ pub record TakesPart (room : ℕ) (old new : Option (List ℕ)) (before after : 
   pub taken : Consumes old new (part ++ end_of ended)
   pub some : ended ≡ false → 0 < count
 
+-- nothing is left, so that nothing was taken
+pub record FindsEnd (old new : Option (List ℕ)) (before after : List ℕ) : Type 0 where
+  pub end : IsAtEnd new
+  pub kept : Keeps old new
+  pub same : after ≡ before
+
+-- the next part of a line was taken, or nothing is left
+abbrev pub TakesNext : ℕ → Option (List ℕ) → Option (List ℕ) → List ℕ → List ℕ → Option Part → Type 0
+TakesNext room old new before after None = FindsEnd old new before after
+TakesNext room old new before after (Some p) = TakesPart room old new before after p.length p.ended
+
 -- the bytes that are left begin with more bytes than these without an end, where they are told
 abbrev pub BeginsLong : ℕ → Option (List ℕ) → Type 0
 BeginsLong room old = (part : List ℕ) × (new : Option (List ℕ)) × HasNoEnd part × Consumes old new part × (room < length part)
 
 -- a part is too long, so that with those seen before it is past the limit
 abbrev pub IsPartFault : ℕ → ℕ → Option (List ℕ) → LineFault → Type 0
-IsPartFault limit seen old Failed = ⊥
+IsPartFault limit seen old Failed = Unit {0}
 IsPartFault limit seen old (TooLong found) = (limit < found) × BeginsLong (limit - seen) old
 IsPartFault limit seen old OutOfMemory = Unit {0}
+
+-- nothing is too long
+abbrev pub IsReadFault : LineFault → Type 0
+IsReadFault Failed = Unit {0}
+IsReadFault (TooLong found) = ⊥
+IsReadFault OutOfMemory = Unit {0}
 
 -- the next line is too long
 abbrev pub IsLineFault : ℕ → Option (List ℕ) → LineFault → Type 0

@@ -1,11 +1,12 @@
 //! A source over whatever reads bytes on.
-ghost use Rattle.std.specs.Prelude.{◌≡◌, ◌≤◌, ◌<◌, ◌-◌, ℕ, List, Option, Ok, length, take, IfOk, IfErr, OnErr, IsErrOf, vec_len};
+ghost use Rattle.std.specs.Prelude.{◌≡◌, ◌≤◌, ◌<◌, ◌-◌, ◌+◌, ◌^◌, ℕ, List, Option, Ok, length, take, drop, IfOk, IfErr, OnErr, IsErrOf, vec_len};
 ghost use Rattle.std.specs.Bool.{OnTrue, OnFalse};
-ghost use Rattle.std.specs.Io.KnownBytes.{IsAtEnd, Keeps};
+ghost use Rattle.std.specs.Io.KnownBytes.{IsAtEnd, Keeps, prepend_known};
 ghost use Rattle.rm_outside.specs.Faults.{Rose};
 ghost use Rattle.rm_outside.specs.Flow.{flow};
 ghost use Rattle.rm_outside.specs.Source.{AsksLine};
-ghost use Rattle.rm_outside.specs.LineInput.{IsLineFault, IsPartFault, TakesPart, left_of};
+ghost use Rattle.rm_outside.specs.LineInput.{IsLineFault, IsPartFault, IsReadFault, TakesNext, TakesPart, left_of};
+ghost use Rattle.rm_outside.specs.Reading.{ReadsOn};
 
 use crate::lines::line_length;
 use crate::{LineFault, Reads, Source};
@@ -17,7 +18,7 @@ const PIECE: usize = 65536;
 
 /// A source of the lines of a reader. It fails where a read fails, and where a signal interrupts one. What is left is told
 /// where the reader tells it; the system's streams do not. Its count of faults is the reader's, so that it never fails but by
-/// a read that failed.
+/// a read that failed. The rest of a line that is longer than what was read ahead is read straight into the caller's vector.
 #[derive(Drop)]
 pub struct LineInput<R> {
     from: R,
@@ -98,6 +99,7 @@ impl<R: Reads> LineInput<R> {
         ensures fault { IfErr result (IsPartFault limit seen
             (left_of self.old.start self.old.end self.old.buffer.items (R.told self.old.from).bytes)) }
         ensures refused { OnErr result (into.new.items ≡ into.old.items) }
+        ensures sound { ¬ IsErrOf result LineFault.Failed }
         ensures faults { (R.told self.new.from).faults ≡ (R.told self.old.from).faults }
     {
         let piece = &self.buffer[self.start..self.end];
@@ -125,6 +127,127 @@ impl<R: Reads> LineInput<R> {
         })
     }
 
+    /// Cuts what one read gave, behind so many bytes, at the end of the line of which so many bytes are seen. What is behind
+    /// that end is held.
+    fn cut_part(
+        &mut self,
+        limit: usize,
+        seen: usize,
+        held: usize,
+        into: &mut Vec<u8>,
+    ) -> Result<Part, LineFault>
+        requires within { seen ≤ limit }
+        requires seen { seen ≤ held }
+        requires some { held < vec_len into.old }
+        requires room { vec_len into.old ≤ held + vec_len self.old.buffer }
+        requires used { self.old.end ≤ self.old.start }
+        ensures part { IfOk result (λ p. TakesPart (limit - seen)
+            (prepend_known (drop held into.old.items) (R.told self.old.from).bytes)
+            (left_of self.new.start self.new.end self.new.buffer.items (R.told self.new.from).bytes)
+            (take held into.old.items) into.new.items p.length p.ended) }
+        ensures fault { IfErr result (IsPartFault limit seen (prepend_known (drop held into.old.items) (R.told self.old.from).bytes)) }
+        ensures refused { OnErr result (into.new.items ≡ into.old.items) }
+        ensures sound { ¬ IsErrOf result LineFault.Failed }
+        ensures faults { (R.told self.new.from).faults ≡ (R.told self.old.from).faults }
+    {
+        let piece = &into[held..];
+        let length = line_length(piece);
+        if length > limit - seen {
+            return Err(LineFault::TooLong {
+                seen: seen as u64 + length as u64,
+            });
+        }
+        if length == piece.len() {
+            return Ok(Part {
+                length,
+                ended: false,
+            });
+        }
+        self.hold(&piece[length + 1..]);
+        into.truncate(held + length);
+        Ok(Part {
+            length,
+            ended: true,
+        })
+    }
+
+    /// Holds these bytes as read and not yet taken.
+    fn hold(&mut self, bytes: &[u8])
+        requires { length bytes.now ≤ vec_len self.old.buffer }
+        ensures held { take (self.new.end - self.new.start) (drop self.new.start self.new.buffer.items) ≡ bytes.now }
+        ensures from { self.new.from ≡ self.old.from }
+    {
+        put_front(&mut self.buffer, bytes);
+        self.start = 0;
+        self.end = bytes.len();
+    }
+
+    /// Reads a part of a line of which so many bytes are seen straight into the vector, where all that was read before is
+    /// taken. None at the end.
+    fn read_part(
+        &mut self,
+        limit: usize,
+        seen: usize,
+        into: &mut Vec<u8>,
+    ) -> Result<Option<Part>, LineFault>
+        requires within { seen ≤ limit }
+        requires seen { seen ≤ vec_len into.old }
+        requires used { self.old.end ≤ self.old.start }
+        ensures next { IfOk result (TakesNext (limit - seen)
+            (left_of self.old.start self.old.end self.old.buffer.items (R.told self.old.from).bytes)
+            (left_of self.new.start self.new.end self.new.buffer.items (R.told self.new.from).bytes)
+            into.old.items into.new.items) }
+        ensures fault { IfErr result (IsPartFault limit seen
+            (left_of self.old.start self.old.end self.old.buffer.items (R.told self.old.from).bytes)) }
+        ensures refused { OnErr result (take (vec_len into.old) into.new.items ≡ into.old.items) }
+        ensures later { (R.told self.old.from).faults ≤ (R.told self.new.from).faults }
+        ensures failed { IsErrOf result LineFault.Failed → Rose (R.told self.old.from).faults (R.told self.new.from).faults }
+    {
+        let held = into.len();
+        match read_onto(&mut self.from, self.buffer.len(), into) {
+            Ok(0) => return Ok(None),
+            Ok(_) => {}
+            Err(fault) => return Err(fault),
+        }
+        match self.cut_part(limit, seen, held, into) {
+            Ok(part) => Ok(Some(part)),
+            Err(fault) => Err(fault),
+        }
+    }
+
+    /// Appends the next part of a line of which so many bytes are seen. None at the end.
+    fn next_part(
+        &mut self,
+        limit: usize,
+        seen: usize,
+        into: &mut Vec<u8>,
+    ) -> Result<Option<Part>, LineFault>
+        requires within { seen ≤ limit }
+        requires seen { seen ≤ vec_len into.old }
+        ensures next { IfOk result (TakesNext (limit - seen)
+            (left_of self.old.start self.old.end self.old.buffer.items (R.told self.old.from).bytes)
+            (left_of self.new.start self.new.end self.new.buffer.items (R.told self.new.from).bytes)
+            into.old.items into.new.items) }
+        ensures fault { IfErr result (IsPartFault limit seen
+            (left_of self.old.start self.old.end self.old.buffer.items (R.told self.old.from).bytes)) }
+        ensures refused { OnErr result (take (vec_len into.old) into.new.items ≡ into.old.items) }
+        ensures later { (R.told self.old.from).faults ≤ (R.told self.new.from).faults }
+        ensures failed { IsErrOf result LineFault.Failed → Rose (R.told self.old.from).faults (R.told self.new.from).faults }
+    {
+        if seen > 0 && self.start == self.end {
+            return self.read_part(limit, seen, into);
+        }
+        match self.fill() {
+            Ok(true) => {}
+            Ok(false) => return Ok(None),
+            Err(fault) => return Err(fault),
+        }
+        match self.take_part(limit, seen, into) {
+            Ok(part) => Ok(Some(part)),
+            Err(fault) => Err(fault),
+        }
+    }
+
     /// Appends a line, or a part of it.
     fn take_line(&mut self, limit: usize, into: &mut Vec<u8>) -> Result<bool, LineFault>
         ensures line { IfOk result (λ some. AsksLine limit
@@ -139,21 +262,49 @@ impl<R: Reads> LineInput<R> {
     {
         let mut seen = 0;
         loop {
-            match self.fill() {
-                Ok(true) => {}
-                Ok(false) => return Ok(seen > 0),
-                Err(fault) => return Err(fault),
-            }
-            match self.take_part(limit, seen, into) {
-                Ok(part) => {
+            match self.next_part(limit, seen, into) {
+                Ok(Some(part)) => {
                     seen += part.length;
                     if part.ended {
                         return Ok(true);
                     }
                 }
+                Ok(None) => return Ok(seen > 0),
                 Err(fault) => return Err(fault),
             }
         }
+    }
+}
+
+/// Puts these bytes in place of as many at the front.
+fn put_front(buffer: &mut [u8], bytes: &[u8])
+    requires { length bytes.now ≤ length buffer.old }
+    ensures front { take (length bytes.now) buffer.new ≡ bytes.now }
+    ensures len { length buffer.new ≡ length buffer.old }
+{
+    buffer[..bytes.len()].copy_from_slice(bytes);
+}
+
+/// Appends what one read gives, at most so many bytes; none only at the end.
+fn read_onto<R: Reads>(from: &mut R, most: usize, into: &mut Vec<u8>) -> Result<usize, LineFault>
+    requires some { 0 < most }
+    requires small { most < 2 ^ 63 }
+    ensures read { IfOk result (ReadsOn most (R.told from.old).bytes (R.told from.new).bytes into.old.items into.new.items) }
+    ensures fault { IfErr result IsReadFault }
+    ensures front { take (vec_len into.old) into.new.items ≡ into.old.items }
+    ensures later { (R.told from.old).faults ≤ (R.told from.new).faults }
+    ensures failed { IsErrOf result LineFault.Failed → Rose (R.told from.old).faults (R.told from.new).faults }
+{
+    let start = into.len();
+    if into.resize(start + most, 0).is_err() {
+        return Err(LineFault::OutOfMemory);
+    }
+    match from.read(&mut into.as_mut_slice()[start..]) {
+        Ok(count) => {
+            into.truncate(start + count);
+            Ok(count)
+        }
+        Err(_) => Err(LineFault::Failed),
     }
 }
 
@@ -193,6 +344,39 @@ mod tests {
             }
             self.left.read(&mut buf[..2])
         }
+    }
+
+    /// A reader that gives 40,000 bytes at a time.
+    #[derive(Drop)]
+    struct Pieces<'a> {
+        left: &'a [u8],
+    }
+
+    impl Read for Pieces<'_> {
+        fn read(&mut self, buf: &mut [u8]) -> io::Result<usize> {
+            let most = buf.len().min(40_000);
+            self.left.read(&mut buf[..most])
+        }
+    }
+
+    #[test]
+    fn takes_a_line_of_many_pieces(rt: HostRuntime) -> Result<(), Fail> {
+        let alloc = rt.alloc();
+        let long = vec![in alloc; b'a'; 150_000]?;
+        let mut text = long.clone()?;
+        text.extend_from_slice(b"\nbc\n\nd")?;
+        let mut lines = LineInput::new(alloc, Counting::new(Pieces { left: &text }))?;
+        let mut into = Vec::new(alloc);
+        assert_eq!(rt; lines.line(150_000, &mut into), Ok(true));
+        assert_eq!(rt; into.as_slice(), long.as_slice());
+        into.clear();
+        assert_eq!(rt; lines.line(2, &mut into), Ok(true));
+        assert_eq!(rt; into.as_slice(), b"bc".as_slice());
+        assert_eq!(rt; lines.line(2, &mut into), Ok(true));
+        assert_eq!(rt; lines.line(2, &mut into), Ok(true));
+        assert_eq!(rt; into.as_slice(), b"bcd".as_slice());
+        assert_eq!(rt; lines.line(2, &mut into), Ok(false));
+        Ok(())
     }
 
     #[test]
