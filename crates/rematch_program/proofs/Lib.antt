@@ -8,7 +8,6 @@ pub mod Gathers
 pub mod HeavyAtoms
 pub mod Inside
 pub mod KeptLines
-pub mod KnownTests
 pub mod PageSteps
 pub mod QueryLaws
 pub mod RestLaws

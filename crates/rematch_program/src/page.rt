@@ -6,6 +6,7 @@ ghost use Rattle.std.specs.Prelude.{◌≡◌, ◌≤◌, ◌^◌, ◌++◌, [],
 ghost use Rattle.command_line.specs.RequestView.{request_view};
 ghost use Rattle.note_texts.specs.Notes.{note_bytes};
 ghost use Rattle.rm_outside.specs.Change.{change, Adds, AddsPart, Failed};
+ghost use Rattle.spanner_engine.specs.Borrowed.{left_in};
 ghost use Rattle.rematch_program.specs.Pages.{FitsIf, cursor_given, last_note, row_if};
 ghost use Rattle.rematch_program.specs.Run.{FromPage};
 ghost use Rattle.rematch_program.specs.Taking.{PageTaken, coming, page_note as note_of_page, page_rows, whole_text};
@@ -34,9 +35,9 @@ pub fn write_page<O: Sink, J: Judge, L: Ledger>(
     ensures case { FromPage
         (work (change (O.told out.old) (O.told out.new)) (clock steps.old steps.new))
         result.status (note_bytes result.note)
-        (whole_text J.judges rows.old (request_view request.now))
-        (note_of_page J.judges rows.old (request_view request.now))
-        (PageTaken J.judges rows.old (request_view request.now).limit) }
+        (whole_text J.judges (left_in rows.old) (request_view request.now))
+        (note_of_page J.judges (left_in rows.old) (request_view request.now))
+        (PageTaken J.judges (left_in rows.old) (request_view request.now).limit) }
 {
     match put_page(alloc, request, rows, out, steps) {
         Ok(note) => Outcome {
@@ -57,12 +58,12 @@ fn put_page<O: Sink, J: Judge, L: Ledger>(
     steps: &mut Steps<L>,
 ) -> Result<NoteLine, PageFault>
     ensures whole { OnOk result (Adds (change (O.told out.old) (O.told out.new))
-        (whole_text J.judges rows.old (request_view request.now))) }
+        (whole_text J.judges (left_in rows.old) (request_view request.now))) }
     ensures part { OnErr result (AddsPart (change (O.told out.old) (O.told out.new))
-        (whole_text J.judges rows.old (request_view request.now))) }
+        (whole_text J.judges (left_in rows.old) (request_view request.now))) }
     ensures failed { IsErrOf result PageFault.Failed → Failed (change (O.told out.old) (O.told out.new)) }
-    ensures note { IfOk result (λ note. note_bytes note ≡ note_of_page J.judges rows.old (request_view request.now)) }
-    ensures steps { PageTaken J.judges rows.old (request_view request.now).limit (clock steps.old steps.new) }
+    ensures note { IfOk result (λ note. note_bytes note ≡ note_of_page J.judges (left_in rows.old) (request_view request.now)) }
+    ensures steps { PageTaken J.judges (left_in rows.old) (request_view request.now).limit (clock steps.old steps.new) }
 {
     let mut page = PageWriter::begin(alloc, request, rows.vars(), rows.document())?;
     let end = match put_rows(&mut page, request.limit, rows, out, steps) {
@@ -119,17 +120,17 @@ fn put_rows<O: Sink, J: Judge, L: Ledger>(
     out: &mut O,
     steps: &mut Steps<L>,
 ) -> Result<PageEnd, PageFault>
-    requires over { IsOver page.old rows.old.source }
-    ensures source { rows.new.source ≡ rows.old.source }
-    ensures ok { OnOk result (Passes page.old.waiting (lines_of page.old (page_rows J.judges rows.old limit)) page.new.waiting
+    requires over { IsOver page.old (left_in rows.old).source }
+    ensures source { (left_in rows.new).source ≡ (left_in rows.old).source }
+    ensures ok { OnOk result (Passes page.old.waiting (lines_of page.old (page_rows J.judges (left_in rows.old) limit)) page.new.waiting
         (change (O.told out.old) (O.told out.new))) }
     ensures part { OnErr result (AddsPart (change (O.told out.old) (O.told out.new))
-        (page.old.waiting ++ lines_of page.old (page_rows J.judges rows.old limit))) }
+        (page.old.waiting ++ lines_of page.old (page_rows J.judges (left_in rows.old) limit))) }
     ensures failed { IsErrOf result PageFault.Failed → Failed (change (O.told out.old) (O.told out.new)) }
     ensures later { (O.told out.old).faults ≤ (O.told out.new).faults }
     ensures fits { IfOk result (λ e. FitsIf (length page.old.names) (length page.old.document) e.last) }
-    ensures end { IfOk result (λ e. EndsPage (page_rows J.judges rows.old limit) (coming J.judges rows.old) e.last e.more) }
-    ensures steps { PageTaken J.judges rows.old limit (clock steps.old steps.new) }
+    ensures end { IfOk result (λ e. EndsPage (page_rows J.judges (left_in rows.old) limit) (coming J.judges (left_in rows.old)) e.last e.more) }
+    ensures steps { PageTaken J.judges (left_in rows.old) limit (clock steps.old steps.new) }
 {
     let mut some = false;
     let mut remaining = Remaining::of(limit);
@@ -153,7 +154,7 @@ fn put_rows<O: Sink, J: Judge, L: Ledger>(
 /// The row that was gone to last, if some row was.
 #[inline(never)]
 fn last_row<J: Judge>(some: bool, rows: &TestedRows<'_, J>) -> Option<Row>
-    ensures { result ≡ row_if some rows.now.row }
+    ensures { result ≡ row_if some (left_in rows.now).row }
 {
     if some { Some(rows.row()) } else { None }
 }

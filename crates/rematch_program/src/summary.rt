@@ -4,6 +4,7 @@ ghost use Rattle.spanner_model.specs.Answers.{page_end};
 ghost use Rattle.rm_outside.specs.Change.{change};
 ghost use Rattle.rematch_program.specs.Work.{work, clock};
 ghost use Rattle.note_texts.specs.Notes.{line, note_bytes};
+ghost use Rattle.spanner_engine.specs.Borrowed.{left_in};
 ghost use Rattle.rematch_program.specs.Pages.{FitsPage};
 ghost use Rattle.rematch_program.specs.Run.{FromPage};
 ghost use Rattle.rematch_program.specs.Taking.{AllTaken, coming};
@@ -31,7 +32,7 @@ pub fn write_summary<O: Sink, J: Judge, L: Ledger>(
     ensures case { FromPage
         (work (change (O.told out.old) (O.told out.new)) (clock steps.old steps.new))
         result.status (note_bytes result.note)
-        (trial_summary lines rows.old.source.names rows.old.source.document (coming J.judges rows.old)) (line (codes "end")) (AllTaken J.judges rows.old) }
+        (trial_summary lines (left_in rows.old).source.names (left_in rows.old).source.document (coming J.judges (left_in rows.old))) (line (codes "end")) (AllTaken J.judges (left_in rows.old)) }
 {
     let counted = count_rows(rows, steps);
     let text = match summary(alloc, lines, rows.vars(), rows.document(), &counted) {
@@ -56,13 +57,13 @@ pub struct Counted {
 
 /// Takes all rows that are left.
 fn count_rows<J: Judge, L: Ledger>(rows: &mut TestedRows<'_, J>, steps: &mut Steps<L>) -> Counted
-    ensures source { rows.new.source ≡ rows.old.source }
-    ensures rows { result.rows ≡ min (length (coming J.judges rows.old)) (2 ^ 64 - 1) }
-    ensures first { result.first ≡ slice_get (coming J.judges rows.old) 0 }
-    ensures last { later_row result.first result.later ≡ page_end (coming J.judges rows.old) None }
-    ensures first_fits { IfSome result.first (FitsPage (length rows.old.source.names) (length rows.old.source.document)) }
-    ensures later_fits { IfSome result.later (FitsPage (length rows.old.source.names) (length rows.old.source.document)) }
-    ensures steps { AllTaken J.judges rows.old (clock steps.old steps.new) }
+    ensures source { (left_in rows.new).source ≡ (left_in rows.old).source }
+    ensures rows { result.rows ≡ min (length (coming J.judges (left_in rows.old))) (2 ^ 64 - 1) }
+    ensures first { result.first ≡ slice_get (coming J.judges (left_in rows.old)) 0 }
+    ensures last { later_row result.first result.later ≡ page_end (coming J.judges (left_in rows.old)) None }
+    ensures first_fits { IfSome result.first (FitsPage (length (left_in rows.old).source.names) (length (left_in rows.old).source.document)) }
+    ensures later_fits { IfSome result.later (FitsPage (length (left_in rows.old).source.names) (length (left_in rows.old).source.document)) }
+    ensures steps { AllTaken J.judges (left_in rows.old) (clock steps.old steps.new) }
 {
     let first = match rows.next(steps) {
         Some(row) => row,

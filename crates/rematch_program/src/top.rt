@@ -344,9 +344,9 @@ fn with_document<O: Sink, J: Judge, L: Ledger>(
         result.status (note_bytes result.note) a.compiled.automaton.names (option_copied after.entry) document.now }
 {
     match begun(asking, after, document, steps) {
-        Ok(answers) => {
+        Ok(mut answers) => {
             let mut rows = TestedRows::new(
-                answers,
+                &mut answers,
                 asking.tested,
                 asking.compiled.vars(),
                 asking.tests,
@@ -393,9 +393,9 @@ fn with_trial<O: Sink, J: Judge, L: Ledger>(
         result.status (note_bytes result.note) a.compiled.automaton.names None document.now }
 {
     match begun(asking, None, document, steps) {
-        Ok(answers) => {
+        Ok(mut answers) => {
             let mut rows = TestedRows::new(
-                answers,
+                &mut answers,
                 asking.tested,
                 asking.compiled.vars(),
                 asking.tests,

@@ -23,8 +23,7 @@ use Rattle.session_server.specs.Rows.{array_of, rows_text, with_row}
 use Rattle.session_server.specs.Standing.{GivesOne, GivesSoFar, HasGiven, IsKeptSession, IsReadOn, IsSession, IsSessionOver, next_row}
 use Rattle.session_server.proofs.RowTexts.{array_text, row_behind}
 use Rattle.spanner_model.specs.Passing.{AreKnown, Check, Known, checks_of, passing}
-use Rattle.spanner_engine.specs.Trying.{IsNextPassing}
-use Rattle.spanner_engine.proofs.PassingLaws.{has_passing, last_fit, next_passes}
+use Rattle.spanner_engine.proofs.PassingLaws.{has_passing, last_fit}
 
 -- ---- a row that comes is an answer
 
@@ -54,24 +53,24 @@ drop_more n rows rest row is =
 
 pub comes_next : (checks : List Check) (names : List VarName) (d : List ℕ) (given : ℕ) (all old new : List SpanRow) (row : SpanRow) (o : Option SpanRow) →
     drop given (passing checks names d all) ≡ row ∷ passing checks names d old →
-    MatchOption o ((passing checks names d old ≡ []) × (new ≡ [])) (λ r. IsNextPassing checks names d old r new) →
+    MatchOption o ((passing checks names d old ≡ []) × (new ≡ [])) (λ r. passing checks names d old ≡ r ∷ passing checks names d new) →
     MatchOption o (drop (given + 1) (passing checks names d all) ≡ []) (λ r. drop (given + 1) (passing checks names d all) ≡ r ∷ passing checks names d new)
 comes_next checks names d given all old new row None is n = drop_more given (passing checks names d all) (passing checks names d old) row is ∙ n.0
-comes_next checks names d given all old new row (Some r) is n = drop_more given (passing checks names d all) (passing checks names d old) row is ∙ next_passes checks names d old new r n
+comes_next checks names d given all old new row (Some r) is n = drop_more given (passing checks names d all) (passing checks names d old) row is ∙ n
 
 -- and before any row was given
 pub comes_first : (checks : List Check) (names : List VarName) (d : List ℕ) (old new : List SpanRow) (o : Option SpanRow) →
-    MatchOption o ((passing checks names d old ≡ []) × (new ≡ [])) (λ r. IsNextPassing checks names d old r new) →
+    MatchOption o ((passing checks names d old ≡ []) × (new ≡ [])) (λ r. passing checks names d old ≡ r ∷ passing checks names d new) →
     MatchOption o (passing checks names d old ≡ []) (λ r. passing checks names d old ≡ r ∷ passing checks names d new)
 comes_first checks names d old new None n = n.0
-comes_first checks names d old new (Some r) n = next_passes checks names d old new r n
+comes_first checks names d old new (Some r) n = n
 
 pub begun_session : (k : Known) (t : TestedTree) (c : CodeSession) (d : List ℕ) (old : List SpanRow) → tested_of c.tested ≡ t → c.grown ≡ false →
     IsReadOn t.query d (length d ∷ []) c.vars c.growing → length d ≤ 2 ^ 28 → AreBytes d →
-    AreResultNames t.query c.vars → AreKnown k t.asked → AreAnswers t.query d c.vars old → AreLast t.query d c.vars c.answers.rest →
-    MatchOption (next_row c) ((passing (checks_of k t.asked) c.vars d old ≡ []) × (c.answers.rest ≡ [])) (λ r. IsNextPassing (checks_of k t.asked) c.vars d old r c.answers.rest) →
+    AreResultNames t.query c.vars → AreKnown k t.asked → AreAnswers t.query d c.vars old → AreLast t.query d c.vars c.answers.rest → c.answers.variables ≡ length c.vars →
+    MatchOption (next_row c) ((passing (checks_of k t.asked) c.vars d old ≡ []) × (c.answers.rest ≡ [])) (λ r. passing (checks_of k t.asked) c.vars d old ≡ r ∷ passing (checks_of k t.asked) c.vars d c.answers.rest) →
     IsSession k c (begun t d)
-begun_session k t c d old query ready reads few bytes names known answers last next =
+begun_session k t c d old query ready reads few bytes names known answers last wide next =
     inl (
       old,
       record {
@@ -80,6 +79,7 @@ begun_session k t c d old query ready reads few bytes names known answers last n
         same = refl;
         answers = answers;
         last = last;
+        wide = wide;
         next = comes_first (checks_of k t.asked) c.vars d old c.answers.rest (next_row c) next;
       },
     )
@@ -123,16 +123,16 @@ with_left c left some = record c { answers = left; some = some }
 
 pub give_one : (k : Known) (c : CodeSession) (s : Session) (all : List SpanRow) (left : AnswersLeft) (some : Bool) (e before after : List ℕ) →
     c.some ≡ true → e ≡ c.growing.document → after ≡ with_row before (compact_text (row_data c.vars c.answers.row)) →
-    AreLast (tested_of c.tested).query e c.vars left.rest →
-    OnTrue some (IsNextPassing (checks_of k (tested_of c.tested).asked) c.vars e c.answers.rest left.row left.rest) →
+    AreLast (tested_of c.tested).query e c.vars left.rest → left.variables ≡ c.answers.variables →
+    OnTrue some (passing (checks_of k (tested_of c.tested).asked) c.vars e c.answers.rest ≡ left.row ∷ passing (checks_of k (tested_of c.tested).asked) c.vars e left.rest) →
     OnFalse some ((passing (checks_of k (tested_of c.tested).asked) c.vars e c.answers.rest ≡ []) × (left.rest ≡ [])) →
     IsSessionOver k c (as_stored c s) all → GivesOne k c (with_left c left some) before after (as_stored c s) all
-give_one k c s all left some e before after is same written last found none o =
+give_one k c s all left some e before after is same written last wide found none o =
     let checks = checks_of k (tested_of c.tested).asked in
     let D : List ℕ = c.growing.document in
     let comes = comes_of k c (as_stored c s) all c.answers.row (is_next c is) o in
     let next : Option SpanRow = if some then Some left.row else None in
-    let N : List ℕ → Type 0 = λ x. MatchOption next ((passing checks c.vars x c.answers.rest ≡ []) × (left.rest ≡ [])) (λ r. IsNextPassing checks c.vars x c.answers.rest r left.rest) in
+    let N : List ℕ → Type 0 = λ x. MatchOption next ((passing checks c.vars x c.answers.rest ≡ []) × (left.rest ≡ [])) (λ r. passing checks c.vars x c.answers.rest ≡ r ∷ passing checks c.vars x left.rest) in
     record {
       row = c.answers.row;
       rest = passing checks c.vars D c.answers.rest;
@@ -144,6 +144,7 @@ give_one k c s all left some e before after is same written last found none o =
         same = o.same;
         answers = o.answers;
         last = subst (λ (x : List ℕ). AreLast (tested_of c.tested).query x c.vars left.rest) same last;
+        wide = wide ∙ o.wide;
         next = comes_next checks c.vars D s.given all c.answers.rest left.rest c.answers.row next comes (subst N same (as_option some left.row _ _ found none));
       };
     }

@@ -26,7 +26,6 @@ use Rattle.growing_document.proofs.Lengths.{lengths_law, reduct_weighs}
 use Rattle.spanner_engine.specs.Begun.{counted}
 use Rattle.spanner_engine.specs.Fitting.{AreLast}
 use Rattle.spanner_engine.specs.Left.{AnswersLeft}
-use Rattle.spanner_engine.specs.Trying.{IsNextPassing}
 use Rattle.spanner_model.specs.Passing.{Known, checks_of, passing}
 use Rattle.spanner_engine.proofs.RowLaws.{whole_rows}
 use Rattle.session_server.specs.declared.TheConstants.{MOST_GROWN, SESSION_TABLE}
@@ -202,17 +201,17 @@ module _ (k : Known) (c : CodeSession) (s : Session) (h : Grown) (whole old : Li
       subst (λ (t : TestedTree). AreLast t.query e c.vars old) (sym w.kept.query)
       (subst (λ (x : List ℕ). AreLast s.query.query x c.vars old) (sym same) (record { all = old; answers = all_of_them; front = []; joined = refl }))
 
-  pub now_asked : (left : AnswersLeft) (some : Bool) → AreLast (tested_of c.tested).query e c.vars left.rest →
-      OnTrue some (IsNextPassing (checks_of k (tested_of c.tested).asked) c.vars e old left.row left.rest) →
+  pub now_asked : (left : AnswersLeft) (some : Bool) → AreLast (tested_of c.tested).query e c.vars left.rest → left.variables ≡ length c.vars →
+      OnTrue some (passing (checks_of k (tested_of c.tested).asked) c.vars e old ≡ left.row ∷ passing (checks_of k (tested_of c.tested).asked) c.vars e left.rest) →
       OnFalse some ((passing (checks_of k (tested_of c.tested).asked) c.vars e old ≡ []) × (left.rest ≡ [])) →
       (rows : List SpanRow) × IsSessionOver k (record c { growing = h; answers = left; some = some; grown = false }) (asking s) rows
-  now_asked left some last next_one none =
+  now_asked left some last wide next_one none =
       let o = w.kept in
       let t = s.query in
       let next : Option SpanRow = if some then Some left.row else None in
       let found = as_option some left.row _ _ next_one none in
       let N : TestedTree → List ℕ → Type 0 = λ u x.
-      MatchOption next ((passing (checks_of k u.asked) c.vars x old ≡ []) × (left.rest ≡ [])) (λ r. IsNextPassing (checks_of k u.asked) c.vars x old r left.rest) in
+      MatchOption next ((passing (checks_of k u.asked) c.vars x old ≡ []) × (left.rest ≡ [])) (λ r. passing (checks_of k u.asked) c.vars x old ≡ r ∷ passing (checks_of k u.asked) c.vars x left.rest) in
       let here = comes_first (checks_of k t.asked) c.vars s.document old left.rest next (subst (N t) same (subst (λ (u : TestedTree). N u e) o.query found)) in
       let P : ℕ → Type 0 = λ n.
       MatchOption next (drop n (passing (checks_of k t.asked) c.vars s.document old) ≡ [])
@@ -231,6 +230,7 @@ module _ (k : Known) (c : CodeSession) (s : Session) (h : Grown) (whole old : Li
           same = refl;
           answers = all_of_them;
           last = subst (λ (x : List ℕ). AreLast t.query x c.vars left.rest) same (subst (λ (u : TestedTree). AreLast u.query e c.vars left.rest) o.query last);
+          wide = wide;
           next = subst P (sym w.anew) here;
         },
       )

@@ -54,6 +54,7 @@ pub record IsSessionOver (k : Known) (c : CodeSession) (s : Session) (all : List
   pub same : s.grown ≡ false
   pub answers : AreAnswers s.query.query s.document c.vars all
   pub last : AreLast s.query.query s.document c.vars c.answers.rest
+  pub wide : c.answers.variables ≡ length c.vars
   pub next : MatchOption (next_row c) (to_come k s c.vars all ≡ [])
       (λ row. to_come k s c.vars all ≡ row ∷ passing (checks_of k s.query.asked) c.vars s.document c.answers.rest)
 

@@ -25,7 +25,7 @@ use note_texts::{Note, Refusal};
 use query_parser::{bind, read_tested};
 use span_core::{OutOfMemory, Steps, VarSet};
 use span_tests::{Judge, Tests};
-use spanner_engine::{Answers, Compiled, advance_tested, compile};
+use spanner_engine::{Answers, Compiled, TestedRows, compile};
 use spanner_model::{Query, Tested};
 use std::alloc::Global;
 use std::sync::ledger::Ledger;
@@ -142,14 +142,15 @@ impl Session {
             Err(fault) => return Err(halt_of(fault)),
         };
         self.answers = Answers::over(rows);
-        self.some = advance_tested(
+        let document = self.growing.document();
+        let mut left = TestedRows::new(
             &mut self.answers,
             &self.tested,
             &self.vars,
             tests,
-            self.growing.document(),
-            steps,
+            document,
         );
+        self.some = left.advance(steps);
         self.grown = false;
         Ok(())
     }
@@ -233,15 +234,16 @@ impl Session {
         if !self.some {
             return Ok(false);
         }
-        rows.add(self.answers.spans(), self.growing.document())?;
-        self.some = advance_tested(
+        let document = self.growing.document();
+        rows.add(self.answers.spans(), document)?;
+        let mut left = TestedRows::new(
             &mut self.answers,
             &self.tested,
             &self.vars,
             tests,
-            self.growing.document(),
-            steps,
+            document,
         );
+        self.some = left.advance(steps);
         Ok(true)
     }
 }
@@ -289,7 +291,8 @@ fn bound<J: Judge, L: Ledger>(
         Ok(begun) => begun,
         Err(refusal) => return Err(refusal),
     };
-    let some = advance_tested(&mut answers, &tested, &vars, tests, document, steps);
+    let mut left = TestedRows::new(&mut answers, &tested, &vars, tests, document);
+    let some = left.advance(steps);
     Ok(Session {
         tested,
         vars,
@@ -321,6 +324,7 @@ fn begun<L: Ledger>(
     ensures names { IfOk result (λ b. AreResultNames (query_of query.now) b.vars) }
     ensures growing { IfOk result (λ b. IsReadOn (query_of query.now) document.now (length document.now ∷ []) b.vars b.growing) }
     ensures all { IfOk result (λ b. AreAnswers (query_of query.now) document.now b.vars b.answers.rest) }
+    ensures wide { IfOk result (λ b. b.answers.variables ≡ length b.vars) }
     ensures refused { IfErr result (IsTooHeavy (query_of query.now) document.now) }
 {
     match compile(alloc, query) {
@@ -340,6 +344,7 @@ fn all_of<L: Ledger>(
     ensures names { IfOk result (λ b. b.vars ≡ compiled.entry.automaton.names) }
     ensures growing { IfOk result (λ b. IsReadOn (query_of compiled.entry.query) document.now (length document.now ∷ []) b.vars b.growing) }
     ensures all { IfOk result (λ b. AreAnswers (query_of compiled.entry.query) document.now b.vars b.answers.rest) }
+    ensures wide { IfOk result (λ b. b.answers.variables ≡ length b.vars) }
     ensures refused { IfErr result (IsTooHeavy (query_of compiled.entry.query) document.now) }
 {
     let vars = compiled.vars().copy();
@@ -378,6 +383,7 @@ fn read_by<L: Ledger>(
     ensures growing { IfOk result (λ b. (q : QueryTree) → IsCompiled q automaton →
         IsReadOn q document.now (length document.now ∷ []) automaton.names b.0) }
     ensures all { IfOk result (λ b. (q : QueryTree) → IsCompiled q automaton → AreAnswers q document.now automaton.names b.1.rest) }
+    ensures wide { IfOk result (λ b. b.1.variables ≡ length automaton.names) }
     ensures halted { IfErr result (λ h. (q : QueryTree) → IsCompiled q automaton → IsStartHalt q document.now h) }
 {
     if is_large(&automaton) {

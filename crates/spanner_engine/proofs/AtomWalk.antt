@@ -75,10 +75,10 @@ module _ (P : AtomTree → Type 0) where
   -- none of parts, and then of one part more
   pub none_more : (es : List ExprTree) (k : ℕ) (e : ExprTree) → slice_get es k ≡ Some e → ¬ SomeAtom P (join_all (take k es)) → ¬ SomeAtom P e → ¬ SomeAtom P (join_all (take (k + 1) es))
   none_more es k e at none one h =
-      elim ((some_more (take k es) e).0 (subst (λ (gs : List ExprTree). SomeAtom P (join_all gs)) (take_at_more es k e at) h)) as (λ _. ⊥) [ inl a ↦ none a | inr b ↦ one b ]
+      elim ((some_more (take k es) e).0 (rw (← take_at_more es k e at) h)) as (λ _. ⊥) [ inl a ↦ none a | inr b ↦ one b ]
 
   pub none_all : (es : List ExprTree) (k : ℕ) → length es ≤ k → ¬ SomeAtom P (join_all (take k es)) → ¬ SomeAtom P (join_all es)
-  none_all es k past none = subst (λ (gs : List ExprTree). ¬ SomeAtom P (join_all gs)) (take_all k es past) none
+  none_all es k past none = rw (← take_all k es past) none
 
   pub none_union : (es : List ExprTree) → ¬ SomeAtom P (join_all es) → ¬ SomeAtom P (union_all es)
   none_union es none h = none ((some_union es).0 h)
@@ -94,7 +94,7 @@ module _ (P : AtomTree → Type 0) where
       forth (inr b) = let g = later.0 b in (g.0, inr g.1, g.2)
 
       back : (l : VarName × ExprTree) × Has (m ∷ lets) l × SomeAtom P l.1 → SomeAtom P m.1 ⊎ SomeAtom P (join_all (map (λ (l : VarName × ExprTree). l.1) lets))
-      back (l, inl same, a) = inl (subst (λ (k : VarName × ExprTree). SomeAtom P k.1) (sym same) a)
+      back (l, inl same, a) = inl (rw same a)
       back (l, inr h, a) = inr (later.1 (l, h, a))
 
   some_let : (lets : List (VarName × ExprTree)) → SomeAtom P (join_all (map (λ (l : VarName × ExprTree). l.1) lets)) ↔ ((l : VarName × ExprTree) × Has lets l × SomeAtom P l.1)
@@ -178,14 +178,14 @@ module _ (d : List ℕ) where
   pub touched_more : (es : List ExprTree) (k : ℕ) (e : ExprTree) → slice_get es k ≡ Some e → (before mid after : List (ℕ × ℕ)) →
       AddsTouched d (join_all (take k es)) before mid → AddsTouched d e mid after → AddsTouched d (join_all (take (k + 1) es)) before after
   touched_more es k e at before mid after first next =
-      subst (λ (gs : List ExprTree). AddsTouched d (join_all gs) before after) (sym (take_at_more es k e at)) (
+      rw (take_at_more es k e at) (
       λ i.
       touched_then (IsTouchedIn d (join_all (take k es)) i) (IsTouchedIn d e i) (IsTouchedIn d (join_all (take k es ++ e ∷ [])) i) (Covers before i) (Covers mid i) (Covers after i)
       (some_more (λ a. IsTouchedBy a d i) (take k es) e) (first i) (next i))
 
   -- all of them
   pub touched_all : (es : List ExprTree) (k : ℕ) (before after : List (ℕ × ℕ)) → length es ≤ k → AddsTouched d (join_all (take k es)) before after → AddsTouched d (join_all es) before after
-  touched_all es k before after past adds = subst (λ (gs : List ExprTree). AddsTouched d (join_all gs) before after) (take_all k es past) adds
+  touched_all es k before after past adds = rw (← take_all k es past) adds
 
   -- those of the lets, and then those of the body
   touched_all_of : (q : QueryTree) (k : ℕ) (mid after : List (ℕ × ℕ)) → length q.lets ≤ k →

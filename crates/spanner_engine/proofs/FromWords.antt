@@ -1,5 +1,5 @@
 -- From a document that is read at what the atoms of a query touch to the rows of an enumerator.
-use Rattle.std.proofs.Common.{◌≡◌, ℕ, ◌+◌, ◌<◌, ◌≤◌, Bool, List, Option, None, Some, length, sym, subst, arith, Fits, w8, slice_index_or}
+use Rattle.std.proofs.Common.{◌≡◌, ℕ, ◌+◌, ◌≤◌, Bool, List, Option, None, Some, length, arith, Fits, w8, slice_index_or}
 use Rattle.std.proofs.lemmas.Option.{get_or_from_slice_get}
 use Rattle.span_core.specs.Lists.{Has}
 use Rattle.spanner_model.specs.Expression.{QueryTree}
@@ -26,7 +26,7 @@ use Rattle.spanner_engine.proofs.Costs.{reduct_costs}
 use Rattle.spanner_engine.proofs.RowLaws.{rows_are_answers, words_are_of_rows}
 
 bytes_of : (d : List ℕ) → ((i : ℕ) → Fits w8 (slice_index_or d i 0)) → AreBytes d
-bytes_of d fits i b e = let f = fits i in subst (λ (x : ℕ). x < 256) (get_or_from_slice_get d i b 0 e) (omega (arith, f))
+bytes_of d fits i b e = let f = fits i in rw (← get_or_from_slice_get d i b 0 e) (omega (arith, f))
 
 -- ---- in the shapes of the code
 
@@ -63,11 +63,11 @@ module _ (q : QueryTree) (A : Marked) (made : IsCompiled q A) (marked : IsMarked
     reads w = query_reading q made.sound A marked made.reduces d (bytes_of d bytes) K touched w
 
     width : v ≡ length A.names
-    width = subst (λ (xs : List (List ℕ)). v ≡ length xs) named many
+    width = rw (← named) many
 
     pub rows_to_list : (w : Word) → Has words w → IsWordOfRow v w
     rows_to_list w h =
-        subst (λ (k : ℕ). IsWordOfRow k w) (sym width) (words_are_of_rows q A d K reads words read w h)
+        rw width (words_are_of_rows q A d K reads words read w h)
 
     pub answers_listed : (whole : List SpanRow) → AreRowsOf v words whole → AreInBlockOrder whole → AreAnswers q d A.names whole
-    answers_listed whole are order = rows_are_answers q A d K reads words read whole (subst (λ (k : ℕ). AreRowsOf k words whole) width are) order
+    answers_listed whole are order = rows_are_answers q A d K reads words read whole (rw (← width) are) order

@@ -11,6 +11,7 @@ pub mod RowLaws
 pub mod Starting
 pub mod WordLaws
 pub mod PassingLaws
+pub mod KnownTests
 pub mod CacheLaws
 pub mod Deciding
 pub mod PassDeciding

@@ -16,14 +16,14 @@ NoneIs {X} P xs = (x : X) → Has xs x → ¬ P x
 module _ {X : Type 0} (P : X → Type 0) where
   pub none_more : (xs : List X) (k : ℕ) (x : X) → slice_get xs k ≡ Some x → ¬ P x → NoneIs P (take k xs) → NoneIs P (take (k + 1) xs)
   none_more xs k x at not before y has =
-      let h = Has-append_cases (take k xs) (x ∷ []) y (subst (λ (ys : List X). Has ys y) (take_at_more xs k x at) has) in
+      let h = Has-append_cases (take k xs) (x ∷ []) y (rw (← take_at_more xs k x at) has) in
       elim h as (λ _. ¬ P y) [
         | inl early ↦ before y early
         | inr here ↦ elim here as (λ _. ¬ P y) [ inl same ↦ λ p. not (subst P (sym same) p) | inr never ↦ absurd never ]
       ]
 
   pub none_all : (xs : List X) (k : ℕ) → length xs ≤ k → NoneIs P (take k xs) → NoneIs P xs
-  none_all xs k past none = subst (λ (ys : List X). NoneIs P ys) (take_all k xs past) none
+  none_all xs k past none = rw (← take_all k xs past) none
 
 -- a difference stands in parts where it does in one of them
 pub minus_part : (es : List ExprTree) (e : ExprTree) → Has es e → HasMinusIn e → HasMinusIn (join_all es)

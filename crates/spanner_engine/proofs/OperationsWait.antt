@@ -29,8 +29,8 @@ module _ (e : ℕ → ℕ) (ways : List Way) (d : List ℕ) where
         y.0,
         y.1,
         ap (λ (g : Way). g.from) y.2 ∙ h.2,
-        subst (λ (g : Way). ReadsByte d i g.bytes) (sym y.2) h.3,
-        pass_marked n (suc i) y.0.to q (subst (λ x. Passes (map (remarked_way e) ways) d (suc i) n x q) (sym (ap (λ (g : Way). g.to) y.2)) h.4),
+        rw (← y.2) at h.3,
+        pass_marked n (suc i) y.0.to q (rw (ap (λ (g : Way). g.to) y.2) h.4),
       )
 
 module _ (A : Automaton) (e : ℕ → ℕ) (d : List ℕ) where
@@ -49,7 +49,7 @@ projection_waits A e zero_kept d K waits = record {
       let x = Has-map_cases (remarked_way e) A.ways y h in
       let from = ap (λ (g : Way). g.from) x.2 in
       let to = ap (λ (g : Way). g.to) x.2 in
-      let r = waits.ways i x.0 k x.1 (subst (IsLed A d i) (sym from) (led_marked A e d i y.from led)) (subst (λ (g : Way). ReadsByte d i g.bytes) (sym x.2) byte)
+      let r = waits.ways i x.0 k x.1 (subst (IsLed A d i) (sym from) (led_marked A e d i y.from led)) (rw (← x.2) at byte)
       (subst (LeadsOut A d (suc i)) (sym to) (out_marked A e d (suc i) y.to out)) in
       (sym (ap (λ (g : Way). g.marks) x.2) ∙ (ap e r.0 ∙ zero_kept), sym to ∙ (r.1 ∙ from));
 }
@@ -89,7 +89,7 @@ module _ (A B : Automaton) (a : IsWhole A) (b : IsWhole B) (d : List ℕ) where
       let y = in_second h.0 p h.1 (at ∙ sym h.2) in
       let r = pass_second n (suc i) y.0.to h.0.to q (ap (λ (g : Way). g.to) y.2) h.4 in
       let from : y.0.from ≡ p = omega (arith, ap (λ (g : Way). g.from) y.2, at, h.2) in
-      (r.0, (y.0, y.1, from, subst (λ (g : Way). ReadsByte d i g.bytes) (sym y.2) h.3, r.1), r.2)
+      (r.0, (y.0, y.1, from, rw (← y.2) at h.3, r.1), r.2)
 
   abbrev Side : (ℕ → Type 0) → (ℕ → Type 0) → ℕ → Type 0
   Side P Q z = ((z < A.states) × P z) ⊎ ((p : ℕ) × (A.states + p ≡ z) × Q p)
@@ -142,7 +142,7 @@ module _ (A B : Automaton) (a : IsWhole A) (b : IsWhole B) (d : List ℕ) where
               let from = ap (λ (g : Way). g.from) x.2 in
               let to = ap (λ (g : Way). g.to) x.2 in
               let same : s.0 ≡ x.0.from = omega (arith, s.1, from) in
-              let r = wb.ways i x.0 k x.1 (subst (IsLed B d i) same s.2) (subst (λ (g : Way). ReadsByte d i g.bytes) (sym x.2) byte)
+              let r = wb.ways i x.0 k x.1 (subst (IsLed B d i) same s.2) (rw (← x.2) at byte)
               (out_second (suc i) y.to x.0.to to out) in
               (sym (ap (λ (g : Way). g.marks) x.2) ∙ r.0, sym to ∙ (ap (λ v. A.states + v) r.1 ∙ from))
         ]
@@ -175,12 +175,12 @@ module _ (agree : ℕ → ℕ → Bool) (both : ℕ → ℕ → ℕ) (A B : Auto
 
   byte_left : (i : ℕ) (y : Way) (p q : ℕ) (r : PairWay y p q) → ReadsByte d i y.bytes → ReadsByte d i r.left.bytes
   byte_left i y p q r byte =
-      let m = subst (λ (g : Way). ReadsByte d i g.bytes) (sym r.is) byte in
+      let m = rw (← r.is) at byte in
       (m.0, m.1, meet_left r.left.bytes r.right.bytes m.0 m.2)
 
   byte_right : (i : ℕ) (y : Way) (p q : ℕ) (r : PairWay y p q) → ReadsByte d i y.bytes → ReadsByte d i r.right.bytes
   byte_right i y p q r byte =
-      let m = subst (λ (g : Way). ReadsByte d i g.bytes) (sym r.is) byte in
+      let m = rw (← r.is) at byte in
       (m.0, m.1, meet_right r.left.bytes r.right.bytes m.0 m.2)
 
   -- a walk of pairs is one of each part

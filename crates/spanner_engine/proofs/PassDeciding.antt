@@ -1,5 +1,5 @@
 -- Whether the bytes of a document lead from a state to a state can be told.
-use Rattle.std.proofs.Common.{◌≡◌, ℕ, zero, suc, ◌+◌, ◌-◌, List, length, Option, Some, None, inl, inr, refl, sym, subst, arith, ap, ◌∙◌}
+use Rattle.std.proofs.Common.{◌≡◌, ℕ, zero, suc, ◌+◌, ◌-◌, List, length, Option, Some, None, inl, inr, refl, sym, arith, ap, ◌∙◌}
 use Rattle.std.specs.Prelude.{slice_get, unwrap_or, IsTrue}
 use Rattle.std.specs.FinSet as bytes
 use Rattle.std.proofs.lemmas.Bool.{cases_eq, cases_lt}
@@ -18,7 +18,7 @@ decide_byte d i set = go (slice_get d i) refl
     here b e (inl is) = inl (b, e, is)
     here b e (inr never) = inr (λ h. never (
         let same : h.0 ≡ b = ap (λ (o : Option ℕ). unwrap_or o b) (sym h.1 ∙ e) in
-        subst (λ (c : ℕ). IsTrue (bytes.contains set c)) same h.2))
+        rw (← same) h.2))
 
     go : (o : Option ℕ) → slice_get d i ≡ o → Decided (ReadsByte d i set)
     go None e = inr (λ h. absurd (cc (e, h.1)))
@@ -52,7 +52,7 @@ module _ (A : Automaton) (d : List ℕ) where
         ((x : Stop) × Has A.stops x × Passes A.ways d i (length d - i) p x.state)
         (LeadsOut A d i p) (
           λ h. (length d - i, h.0, (let e : i + (length d - i) ≡ length d = omega (arith, within) in e), h.1, h.2),
-          λ h. (h.1, h.3, (let e : h.0 ≡ length d - i = omega (arith, h.2) in subst (λ (n : ℕ). Passes A.ways d i n p h.1.state) e h.4)),
+          λ h. (h.1, h.3, (let e : h.0 ≡ length d - i = omega (arith, h.2) in rw (← e) h.4)),
         )
         (decide_some (λ (x : Stop). Passes A.ways d i (length d - i) p x.state) A.stops (λ x has. decide_passes A.ways d (length d - i) i p x.state))
   ]

@@ -1,5 +1,5 @@
 -- Which rows pass, test by test and row by row.
-use Rattle.std.proofs.Common.{◌≡◌, ℕ, zero, suc, ◌+◌, ◌*◌, ◌≤◌, Bool, true, false, ◌&&◌, List, [], ◌∷◌, ◌++◌, length, take, filter, Option, Some, None, inl, inr, refl, sym, ap, ◌∙◌, subst, arith, append-nil}
+use Rattle.std.proofs.Common.{◌≡◌, ℕ, zero, suc, ◌+◌, ◌*◌, ◌≤◌, Bool, true, false, ◌&&◌, List, [], ◌∷◌, ◌++◌, length, take, filter, Option, Some, None, inl, inr, refl, sym, ap, ◌∙◌, arith, append-nil}
 use Rattle.std.specs.Bool.{OnTrue, OnFalse}
 use Rattle.std.specs.Prelude.{slice_get, if◌then◌else◌}
 use Rattle.span_core.specs.declared.span.Span.{Span}
@@ -17,7 +17,7 @@ use Rattle.spanner_model.proofs.NameLaws.{ascending-distinct}
 use Rattle.span_core.specs.NameSets.{Ascending}
 use Rattle.spanner_model.proofs.RowLaws.{mapping_of-outside, mapping_of-at, row_length}
 use Rattle.span_tests.specs.Listed.{IsNamed}
-use Rattle.spanner_engine.specs.Fitting.{AreLast, FitsRow}
+use Rattle.spanner_engine.specs.Fitting.{AllFit, AreLast, FitsRow}
 use Rattle.spanner_engine.specs.Left.{AreLeft, EndsIn}
 use Rattle.spanner_model.specs.Passing.{AreKnown, Check, Known, check_of, checks_of, passes, passing, row_passes, span_passes}
 use Rattle.spanner_engine.specs.Trying.{IsNextPassing}
@@ -38,7 +38,7 @@ module _ (k : Known) (names : List VarName) (d : List ℕ) (row : SpanRow) where
   passes_next [] i a before is holds = absurd (cc)
   passes_next (b ∷ asked) zero a before is holds =
       let same : a ≡ b = cc in
-      let here : row_passes names d row (check_of k b) ≡ true = subst (λ (x : Asked). row_passes names d row (check_of k x) ≡ true) same holds in
+      let here : row_passes names d row (check_of k b) ≡ true = rw (← same) holds in
       simp here refl
   passes_next (b ∷ asked) (suc i) a before is holds = by (row_passes names d row (check_of k b)) refl before (λ rest. passes_next asked i a rest is holds)
     where
@@ -51,13 +51,13 @@ module _ (k : Known) (names : List VarName) (d : List ℕ) (row : SpanRow) where
       passes_of (take (i + 1) asked) ≡ true
   passes_more asked i a before is holds =
       let e : suc i ≡ i + 1 = omega arith in
-      subst (λ (n : ℕ). passes_of (take n asked) ≡ true) e (passes_next asked i a before is holds)
+      rw (← e) (passes_next asked i a before is holds)
 
   pub fails_at : (asked : List Asked) (i : ℕ) (a : Asked) → slice_get asked i ≡ Some a → row_passes names d row (check_of k a) ≡ false → passes_of asked ≡ false
   fails_at [] i a is fails = absurd (cc)
   fails_at (b ∷ asked) zero a is fails =
       let same : a ≡ b = cc in
-      ap (λ (c : Bool). c && passes_of asked) (subst (λ (x : Asked). row_passes names d row (check_of k x) ≡ false) same fails)
+      ap (λ (c : Bool). c && passes_of asked) (rw same at fails)
   fails_at (b ∷ asked) (suc i) a is fails = by (row_passes names d row (check_of k b)) (fails_at asked i a is fails)
     where
       by : (c : Bool) → passes_of asked ≡ false → (c && passes_of asked) ≡ false
@@ -88,10 +88,10 @@ row_ends n (x ∷ names) m ends s (inr h) = row_ends n names m ends s h
 
 pub last_fit : (q : QueryTree) (d : List ℕ) (names : List VarName) (rest : List SpanRow) (row : SpanRow) → AreLast q d names rest → Has rest row → FitsRow (length names) (length d) row
 last_fit q d names rest row last h =
-    let there : Has last.all row = subst (λ (rs : List SpanRow). Has rs row) (sym last.joined) (Has-append_right last.front rest row h) in
+    let there : Has last.all row = rw last.joined (Has-append_right last.front rest row h) in
     let g = last.answers.each_answers row there in
     let fits : FitsRow (length names) (length d) (row_of names g.0) = record { lengths = row_length names g.0; inside = row_ends (length d) names g.0 (query_ends q d g.0 g.1) } in
-    subst (λ (r : SpanRow). FitsRow (length names) (length d) r) (sym g.2) fits
+    rw g.2 fits
 
 pub last_rest : (q : QueryTree) (d : List ℕ) (names : List VarName) (tried rest old : List SpanRow) → old ≡ tried ++ rest → AreLast q d names old → AreLast q d names rest
 last_rest q d names tried rest old is last = record {
@@ -116,11 +116,9 @@ module _ (k : Known) (names : List VarName) (d : List ℕ) (row : SpanRow) (a : 
 
 -- ---- one answer further
 
-pub last_further : (q : QueryTree) (d : List ℕ) (names : List VarName) (b : Bool) (old new : List SpanRow) (row before : SpanRow) →
-    OnTrue b (old ≡ row ∷ new) → OnFalse b ((old ≡ []) × (new ≡ []) × (row ≡ before)) →
-    AreLast q d names old → AreLast q d names new
-last_further q d names true old new row before goes ends last = last_rest q d names (row ∷ []) new old goes last
-last_further q d names false old new row before goes ends last = subst (AreLast q d names) (ends.0 ∙ sym ends.1) last
+pub one_left : (b : Bool) (old new : List SpanRow) (row before : SpanRow) → OnTrue b (old ≡ row ∷ new) → OnFalse b ((old ≡ []) × (new ≡ []) × (row ≡ before)) → EndsIn old new
+one_left true old new row before goes ends = (row ∷ [], goes)
+one_left false old new row before goes ends = ([], ends.0 ∙ sym ends.1)
 
 joins : (a b c : List SpanRow) → a ++ (b ++ c) ≡ (a ++ b) ++ c
 joins [] b c = refl
@@ -144,10 +142,21 @@ pub steps_more : (old now next after v w tests : ℕ) (front : List SpanRow) (ro
 steps_more old now next after v w tests front row same inv further asked =
     steps_by old now next after v w tests (length front) (length (front ++ row ∷ [])) (length_push front row) same inv further asked
 
-pub first_fits : (q : QueryTree) (d : List ℕ) (names : List VarName) (rest new : List SpanRow) (row shown : SpanRow) → AreLast q d names rest →
-    rest ≡ row ∷ new → shown ≡ row → FitsRow (length names) (length d) shown
-first_fits q d names rest new row shown last is same =
-    subst (λ (r : SpanRow). FitsRow (length names) (length d) r) (sym same) (last_fit q d names rest row last (subst (λ (rs : List SpanRow). Has rs row) (sym is) (inl refl)))
+-- ---- rows that fit
+
+-- those that are left fit
+pub all_fit : (q : QueryTree) (d : List ℕ) (names : List VarName) (rest : List SpanRow) → AreLast q d names rest → AllFit (length names) (length d) rest
+all_fit q d names rest last = λ row h. last_fit q d names rest row last h
+
+module _ (width n : ℕ) (old new : List SpanRow) where
+  pub fit_left : AllFit width n old → EndsIn old new → AllFit width n new
+  fit_left fit left = λ row h. fit row (rw left.1 (Has-append_right left.0 new row h))
+
+  -- the one behind those that were tried
+  pub tried_fits : (front rest : List SpanRow) (row shown : SpanRow) → AllFit width n old → old ≡ front ++ rest → rest ≡ row ∷ new → shown ≡ row → FitsRow width n shown
+  tried_fits front rest row shown fit is next same =
+      let there : Has rest row = rw next (inl refl) in
+      rw same (fit row (rw is (Has-append_right front rest row there)))
 
 -- ---- rows that are given
 
@@ -166,16 +175,15 @@ next_passes checks names d old new row n =
 next_ends : (checks : List Check) (names : List VarName) (d : List ℕ) (old new : List SpanRow) (row : SpanRow) → IsNextPassing checks names d old row new → EndsIn old new
 next_ends checks names d old new row n = (n.tried ++ row ∷ [], n.joined ∙ joins n.tried (row ∷ []) new)
 
-next_fits : (q : QueryTree) (checks : List Check) (names : List VarName) (d : List ℕ) (old new : List SpanRow) (row : SpanRow) → AreLast q d names old → IsNextPassing checks names d old row new →
-    FitsRow (length names) (length d) row
-next_fits q checks names d old new row last n =
-    last_fit q d names old row last (subst (λ (rs : List SpanRow). Has rs row) (sym n.joined) (Has-append_right n.tried (row ∷ new) row (inl refl)))
+next_fits : (checks : List Check) (names : List VarName) (d : List ℕ) (old new : List SpanRow) (row : SpanRow) → AllFit (length names) (length d) old →
+    IsNextPassing checks names d old row new → FitsRow (length names) (length d) row
+next_fits checks names d old new row fit n = fit row (rw n.joined (Has-append_right n.tried (row ∷ new) row (inl refl)))
 
 -- what going further did, where it found a row and where it found none
-module _ (q : QueryTree) (checks : List Check) (names : List VarName) (d : List ℕ) (old new : List SpanRow) (row : SpanRow) where
-  pub goes_within : (b : Bool) → AreLast q d names old → OnTrue b (IsNextPassing checks names d old row new) → OnTrue b (FitsRow (length names) (length d) row)
-  goes_within true last n = next_fits q checks names d old new row last n
-  goes_within false last n = tt
+module _ (checks : List Check) (names : List VarName) (d : List ℕ) (old new : List SpanRow) (row : SpanRow) where
+  pub goes_within : (b : Bool) → AllFit (length names) (length d) old → OnTrue b (IsNextPassing checks names d old row new) → OnTrue b (FitsRow (length names) (length d) row)
+  goes_within true fit n = next_fits checks names d old new row fit n
+  goes_within false fit n = tt
 
   pub goes_left : (b : Bool) (P : Type 0) → OnTrue b (IsNextPassing checks names d old row new) → OnFalse b (P × (new ≡ [])) → EndsIn old new
   goes_left true P n none = next_ends checks names d old new row n

@@ -1,5 +1,5 @@
 -- The positions at which a document is read, as sets.
-use Rattle.std.proofs.Common.{◌≡◌, ℕ, ◌+◌, ◌<◌, ◌≤◌, ◌⊎◌, ◌↔◌, Bool, true, false, List, [], ◌∷◌, length, Option, Some, None, inl, inr, sym, subst, arith, Fits, w8, slice_index_or}
+use Rattle.std.proofs.Common.{◌≡◌, ℕ, ◌+◌, ◌<◌, ◌≤◌, ◌⊎◌, ◌↔◌, Bool, true, false, List, [], ◌∷◌, length, Option, Some, None, inl, inr, subst, arith, Fits, w8, slice_index_or}
 use Rattle.std.proofs.lemmas.Bool.{true≢false}
 use Rattle.std.specs.Bool.{one_answer}
 use Rattle.span_core.specs.Intervals.{Covers}
@@ -66,8 +66,8 @@ read_whole true q d (inr has) i = (λ h. inr (has, h), λ h. touched_within q d 
 -- the positions from 0 to n
 pub covers_whole : (parts : List (ℕ × ℕ)) (n i : ℕ) → parts ≡ (0, n) ∷ [] → Covers parts i ↔ (i ≤ n)
 covers_whole parts n i is = (
-  λ h. elim (subst (λ (ps : List (ℕ × ℕ)). Covers ps i) is h) as (λ _. i ≤ n) [ inl p ↦ p.1 | inr q ↦ absurd q ],
-  λ h. subst (λ (ps : List (ℕ × ℕ)). Covers ps i) (sym is) (inl (omega arith, h)),
+  λ h. elim (rw is at h) as (λ _. i ≤ n) [ inl p ↦ p.1 | inr q ↦ absurd q ],
+  λ h. rw is (inl (omega arith, h)),
 )
 
 pub touched_read : (filter : Bool) (q : QueryTree) (d : List ℕ) (i : ℕ) → TouchedOf q d i → IsReadAt filter q d i

@@ -86,7 +86,7 @@ module _ (q : QueryTree) (A : Marked) (d : List ℕ) where
     answer_row : (u : Word) (row : SpanRow) → Has words u → IsRowOfBlocks (length A.names) u row → IsAnswerRow q d A.names row
     answer_row u row h is =
         let a = of_answer u h in
-        (a.m, a.answer, one_row a.m a.w row a.answer a.word (subst (λ (v : Word). IsRowOfBlocks (length A.names) v row) (sym a.is) is))
+        (a.m, a.answer, one_row a.m a.w row a.answer a.word (rw a.is is))
 
     -- each row is that of a word, and each word has its row
     row_word : (ws : List Word) (rows : List SpanRow) → AreRowsOf (length A.names) ws rows → (row : SpanRow) → Has rows row →
@@ -94,7 +94,7 @@ module _ (q : QueryTree) (A : Marked) (d : List ℕ) where
     row_word [] [] are row h = absurd h
     row_word [] (r ∷ rows) are row h = absurd are
     row_word (w ∷ ws) [] are row h = absurd h
-    row_word (w ∷ ws) (r ∷ rows) are row (inl e) = (w, inl refl, subst (λ (s : SpanRow). IsRowOfBlocks (length A.names) w s) e are.0)
+    row_word (w ∷ ws) (r ∷ rows) are row (inl e) = (w, inl refl, rw (← e) are.0)
     row_word (w ∷ ws) (r ∷ rows) are row (inr h) = let g = row_word ws rows are.1 row h in (g.0, inr g.1, g.2)
 
     word_row : (ws : List Word) (rows : List SpanRow) → AreRowsOf (length A.names) ws rows → (u : Word) → Has ws u →
@@ -102,7 +102,7 @@ module _ (q : QueryTree) (A : Marked) (d : List ℕ) where
     word_row [] [] are u h = absurd h
     word_row [] (r ∷ rows) are u h = absurd h
     word_row (w ∷ ws) [] are u h = absurd are
-    word_row (w ∷ ws) (r ∷ rows) are u (inl e) = (r, inl refl, subst (λ (v : Word). IsRowOfBlocks (length A.names) v r) e are.0)
+    word_row (w ∷ ws) (r ∷ rows) are u (inl e) = (r, inl refl, rw (← e) are.0)
     word_row (w ∷ ws) (r ∷ rows) are u (inr h) = let g = word_row ws rows are.1 u h in (g.0, inr g.1, g.2)
 
     all_there : (rows : List SpanRow) → AreRowsOf (length A.names) words rows → (row : SpanRow) → IsAnswerRow q d A.names row → Has rows row

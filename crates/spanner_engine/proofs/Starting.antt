@@ -1,10 +1,10 @@
 -- The table of the start states alone.
-use Rattle.std.proofs.Common.{◌≡◌, ℕ, ◌+◌, ◌≤◌, Bool, true, false, List, [], ◌∷◌, length, map, inl, refl, sym, subst, arith}
+use Rattle.std.proofs.Common.{◌≡◌, ℕ, ◌+◌, ◌≤◌, Bool, true, false, List, [], ◌∷◌, length, map, inl, refl, arith}
 use Rattle.std.specs.Prelude.{◌||◌, if◌then◌else◌}
 use Rattle.std.specs.Str.{bytes_eq}
 use Rattle.span_core.specs.Lists.{Has}
 use Rattle.marked_automaton.specs.Automaton.{Automaton}
-use Rattle.automaton_reading.specs.Reading.{Question, LookUp, questions, byte_read, ended, rest_taken, look_ups_asked, once, look_ups_read, set_of, weight_K}
+use Rattle.automaton_reading.specs.Reading.{Question, LookUp, questions, byte_read, ended, rest_taken, once, look_ups_read, set_of, weight_K}
 use Rattle.automaton_reading.proofs.Matching.{cons_sum, once_has}
 use Rattle.automaton_reading.proofs.MeasureLaws.{bytes_itself, same_bytes}
 use Rattle.set_table.specs.Tabled.{IsRefusal, fresh, weight}
@@ -30,7 +30,7 @@ module _ (A : Automaton) (d : List ℕ) (K : ℕ → Bool) where
   start_there : Has (map (λ (r : LookUp). r.set) (look_ups_read A d K)) (set_of A.starts)
   start_there =
       let f = first_asked d in
-      subst (λ (these : List Question). Has (map (λ (r : LookUp). r.set) (look_ups_asked A (set_of A.starts ∷ []) these)) (set_of A.starts)) (sym f.2) (inl refl)
+      rw f.2 (inl refl)
 
   start_weight : (limit : ℕ) → weight (fresh A limit) ≤ weight_K A d K
   start_weight limit =

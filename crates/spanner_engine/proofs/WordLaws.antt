@@ -33,7 +33,7 @@ front_ascends at m w up = by (nat_eq m 0)
 
     by : (b : Bool) → AscendsFrom at (front_of b at m ++ w)
     by true = from_later at (suc at) w (omega arith) up
-    by false = (omega arith, subst (λ (k : ℕ). AscendsFrom k w) next up)
+    by false = (omega arith, rw (← next) up)
 
 front_some : (at m : ℕ) (w : Word) → AreSome w → AreSome (mark_block at m ++ w)
 front_some at m w some = by (nat_eq m 0) (eqb-false m 0)
@@ -71,9 +71,9 @@ pub word_lists : (w : ℕ → ℕ) (i n at : ℕ) → i ≤ at → at ≤ i + n 
 word_lists w i zero at low high =
     let e : i ≡ at = omega arith in
     ap (λ (u : Word). listed u at) (sym (block_alone i (w i)))
-    ∙ subst (λ (k : ℕ). listed (mark_block i (w i) ++ []) k ≡ w k) e (front_here i (w i) [] refl)
+    ∙ rw (← e) (front_here i (w i) [] refl)
 word_lists w i (suc n) at low high = elim (cases_eq i at) [
-  | inl e ↦ subst (λ (k : ℕ). listed (word_from w i (suc n)) k ≡ w k) e
+  | inl e ↦ rw (← e)
       (front_here i (w i) (word_from w (suc i) n) (listed_before (suc i) (word_from w (suc i) n) i (word_ascends w (suc i) n) (omega arith)))
   | inr ne ↦ front_other i (w i) (word_from w (suc i) n) at ne
       ∙ word_lists w (suc i) n at (let apart : i ≡ at → ⊥ = ne in elim (cases_lt i at) [ inl lt ↦ omega (arith, lt) | inr ge ↦ absurd (apart (omega (arith, ge))) ]) (omega arith)
@@ -101,7 +101,7 @@ some_of (suc k) (x ∷ w) d some l = some_of k w d some.1 (omega arith)
 
 pub block_list_of : (n : ℕ) (w : Word) → AscendsFrom n w → AreSome w → IsBlockList w
 block_list_of n w up some = (
-  λ k d l. let e : suc k ≡ k + 1 = omega arith in subst (λ (j : ℕ). (get_or w k d).0 < (get_or w j d).0) e (adjacent_of n k w d up l),
+  λ k d l. let e : suc k ≡ k + 1 = omega arith in rw (← e) (adjacent_of n k w d up l),
   λ k d l. some_of k w d some l,
 )
 

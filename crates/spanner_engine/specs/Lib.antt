@@ -1,5 +1,6 @@
 -- what public contracts rest on
 pub mod Begun
+pub mod Borrowed
 pub mod Filtering
 pub mod Touching
 pub mod Waiting

@@ -8,7 +8,8 @@ ghost use Rattle.spanner_model.specs.ExprView.{query_of};
 ghost use Rattle.spanner_model.specs.Answers.{AreAnswers, AreResultNames, SpanRow};
 ghost use Rattle.spanner_model.specs.Passing.{AreKnown, check_of, checks_of, known, passes, passing, row_passes};
 ghost use Rattle.spanner_engine.specs.Trying.{IsNextPassing, trying_steps};
-ghost use Rattle.spanner_engine.specs.Fitting.{AreLast, FitsRow};
+ghost use Rattle.spanner_engine.specs.Left.{EndsIn};
+ghost use Rattle.spanner_engine.specs.Fitting.{AllFit, AreLast, FitsRow};
 ghost use Rattle.span_tests.specs.Listed.{IsNamed, number_named};
 
 use crate::Answers;
@@ -107,16 +108,16 @@ pub fn advance_tested<J: Judge, L: Ledger>(
     doc: &[u8],
     steps: &mut Steps<L>,
 ) -> bool
-    requires names { AreResultNames (query_of tested.now.query) vars.now }
+    requires ascending { Ascending vars.now }
     requires few { length doc.now ≤ 2 ^ 28 }
-    requires last { AreLast (query_of tested.now.query) doc.now vars.now answers.old.rest }
+    requires fits { AllFit (length vars.now) (length doc.now) answers.old.rest }
     requires bound { AreKnown (known tests.now J.judges) tested.now.asked }
     ensures variables { answers.new.variables ≡ answers.old.variables }
     ensures next { OnTrue result (IsNextPassing (checks_of (known tests.now J.judges) tested.now.asked) vars.now doc.now
         answers.old.rest answers.new.row answers.new.rest) }
     ensures none { OnFalse result ((passing (checks_of (known tests.now J.judges) tested.now.asked) vars.now doc.now
         answers.old.rest ≡ []) × (answers.new.rest ≡ [])) }
-    ensures last { AreLast (query_of tested.now.query) doc.now vars.now answers.new.rest }
+    ensures left { EndsIn answers.old.rest answers.new.rest }
     ensures steps { steps.new ≤ steps.old + trying_steps answers.old.variables (length tested.now.asked)
         (length answers.old.rest - length answers.new.rest) result }
 {

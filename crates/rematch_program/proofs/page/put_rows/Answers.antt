@@ -3,6 +3,7 @@ use Rattle.std.proofs.KnownBytes.{Appends-nil}
 use Rattle.rm_outside.specs.Change.{change}
 use Rattle.spanner_model.specs.Answers.{SpanRow, page_end}
 use Rattle.spanner_engine.specs.Left.{passing_over}
+use Rattle.spanner_engine.specs.Borrowed.{left_in}
 use Rattle.rematch_program.specs.Pages.{FitsIf, first_rows, row_if}
 use Rattle.rematch_program.specs.Taking.{coming, page_rows}
 use Rattle.rematch_program.specs.Work.{SoFar}
@@ -15,7 +16,7 @@ use Rattle.rematch_program.proofs.page.put_rows.Goals as goal
 pub loop-remaining-init : goal.loop-remaining-init
 loop-remaining-init g c =
     let page = c.args.page.now in
-    let left = coming g.J.Judge.judges c.args.rows.now in
+    let left = coming g.J.Judge.judges (left_in c.args.rows.now) in
     let same = c.of-remaining.ensures in
     record {
       source = refl;
@@ -38,51 +39,51 @@ loop-remaining-init g c =
 pub returns-then-not-advance-clause-ok : goal.returns-then-not-advance-clause-ok
 returns-then-not-advance-clause-ok g c =
     let judges = g.J.Judge.judges in
-    let s = c.args.rows.now.source in
-    let none = goes_out judges s c.loop-remaining.rows.source c.loop-remaining.invariant.source c.loop-remaining.rows.rest [] [] c.if-not-advance.ensures.none.0 in
+    let s = (left_in c.args.rows.now).source in
+    let none = goes_out judges s (left_in c.loop-remaining.rows).source c.loop-remaining.invariant.source (left_in c.loop-remaining.rows).rest [] [] c.if-not-advance.ensures.none.0 in
     let gone = ap (first_rows c.loop-remaining.remaining) none ∙ first_of_none c.loop-remaining.remaining in
     let page = c.args.page.now in
-    rows_passed (g.O.Sink.told c.args.out.now) (g.O.Sink.told c.loop-remaining.out) page.waiting c.loop-remaining.page.waiting (lines_of page (page_rows judges c.args.rows.now c.args.limit))
+    rows_passed (g.O.Sink.told c.args.out.now) (g.O.Sink.told c.loop-remaining.out) page.waiting c.loop-remaining.page.waiting (lines_of page (page_rows judges (left_in c.args.rows.now) c.args.limit))
     (subst (λ (left : List SpanRow). SoFar (change (g.O.Sink.told c.args.out.now) (g.O.Sink.told c.loop-remaining.out)) c.loop-remaining.page.waiting (lines_of page left)
-    (page.waiting ++ lines_of page (page_rows judges c.args.rows.now c.args.limit))) gone c.loop-remaining.invariant.so_far)
+    (page.waiting ++ lines_of page (page_rows judges (left_in c.args.rows.now) c.args.limit))) gone c.loop-remaining.invariant.so_far)
 
 pub returns-then-not-advance-clause-end : goal.returns-then-not-advance-clause-end
 returns-then-not-advance-clause-end g c =
     let judges = g.J.Judge.judges in
-    let s = c.args.rows.now.source in
-    let none = goes_out judges s c.loop-remaining.rows.source c.loop-remaining.invariant.source c.loop-remaining.rows.rest [] [] c.if-not-advance.ensures.none.0 in
-    ends_none c.loop-remaining.remaining (passing_over judges s c.loop-remaining.rows.rest) (page_rows judges c.args.rows.now c.args.limit)
-    (coming judges c.args.rows.now) none c.loop-remaining.invariant.more
+    let s = (left_in c.args.rows.now).source in
+    let none = goes_out judges s (left_in c.loop-remaining.rows).source c.loop-remaining.invariant.source (left_in c.loop-remaining.rows).rest [] [] c.if-not-advance.ensures.none.0 in
+    ends_none c.loop-remaining.remaining (passing_over judges s (left_in c.loop-remaining.rows).rest) (page_rows judges (left_in c.args.rows.now) c.args.limit)
+    (coming judges (left_in c.args.rows.now)) none c.loop-remaining.invariant.more
 
 pub returns-then-not-advance-clause-steps : goal.returns-then-not-advance-clause-steps
 returns-then-not-advance-clause-steps g c =
     let judges = g.J.Judge.judges in
-    let s = c.args.rows.now.source in
-    let none = goes_out judges s c.loop-remaining.rows.source c.loop-remaining.invariant.source c.loop-remaining.rows.rest [] [] c.if-not-advance.ensures.none.0 in
+    let s = (left_in c.args.rows.now).source in
+    let none = goes_out judges s (left_in c.loop-remaining.rows).source c.loop-remaining.invariant.source (left_in c.loop-remaining.rows).rest [] [] c.if-not-advance.ensures.none.0 in
     let gone = ap length (ap (first_rows c.loop-remaining.remaining) none ∙ first_of_none c.loop-remaining.remaining) in
     let empty = ap length none in
     let same = c.loop-remaining.invariant.more in
-    tried_all judges s c.args.rows.now.rest (page_rows judges c.args.rows.now c.args.limit) c.args.steps.now c.advance.new.steps (omega (arith, gone, empty, same))
-    (took_none judges s c.loop-remaining.rows.source c.loop-remaining.invariant.source c.args.rows.now.rest c.loop-remaining.rows.rest
-    c.advance.new.self.rest c.loop-remaining.invariant.tried c.advance.ensures.left
+    tried_all judges s (left_in c.args.rows.now).rest (page_rows judges (left_in c.args.rows.now) c.args.limit) c.args.steps.now c.advance.new.steps (omega (arith, gone, empty, same))
+    (took_none judges s (left_in c.loop-remaining.rows).source c.loop-remaining.invariant.source (left_in c.args.rows.now).rest (left_in c.loop-remaining.rows).rest
+    (left_in c.advance.new.self).rest c.loop-remaining.invariant.tried c.advance.ensures.left
     c.args.steps.now c.loop-remaining.steps c.advance.new.steps c.loop-remaining.invariant.steps c.advance.result (search rules) c.if-not-advance.ensures.none.1 c.advance.ensures.steps)
 
 -- ---- one row more
 
 pub put-requires : goal.put-requires
 put-requires g c =
-    let s = c.args.rows.now.source in
-    let row = c.advance.new.self.row in
-    let fits = fits_page g.J.Judge.judges s c.loop-remaining.rows.source c.loop-remaining.invariant.source [] [] row c.if-not-advance.ensures.fits in
+    let s = (left_in c.args.rows.now).source in
+    let row = (left_in c.advance.new.self).row in
+    let fits = fits_page g.J.Judge.judges s (left_in c.loop-remaining.rows).source c.loop-remaining.invariant.source [] [] row c.if-not-advance.ensures.fits in
     record { fits = fits_now c.args.page.now c.loop-remaining.page c.loop-remaining.invariant.same row c.spans.result.now c.spans.ensures s c.requires.over fits }
 
 pub returns-in-Err-clause-part : goal.returns-in-Err-clause-part
 returns-in-Err-clause-part g c =
     let judges = g.J.Judge.judges in
-    let s = c.args.rows.now.source in
-    let row = c.advance.new.self.row in
+    let s = (left_in c.args.rows.now).source in
+    let row = (left_in c.advance.new.self).row in
     let page = c.args.page.now in
-    let next = goes_on judges s c.loop-remaining.rows.source c.loop-remaining.invariant.source c.loop-remaining.rows.rest c.advance.new.self.rest row c.if-not-advance.ensures.next in
+    let next = goes_on judges s (left_in c.loop-remaining.rows).source c.loop-remaining.invariant.source (left_in c.loop-remaining.rows).rest (left_in c.advance.new.self).rest row c.if-not-advance.ensures.next in
     let front = ap (first_rows c.loop-remaining.remaining) next ∙ c.loop-remaining-test.ensures.one row _ in
     line_cut page c.loop-remaining.page c.loop-remaining.invariant.same row c.spans.result.now c.spans.ensures
     (g.O.Sink.told c.args.out.now) (g.O.Sink.told c.loop-remaining.out) (g.O.Sink.told c.put.new.out) _ _ _ front c.loop-remaining.invariant.so_far c.in-Err.ensures.part
@@ -90,35 +91,35 @@ returns-in-Err-clause-part g c =
 pub returns-in-Err-clause-steps : goal.returns-in-Err-clause-steps
 returns-in-Err-clause-steps g c =
     let judges = g.J.Judge.judges in
-    let s = c.args.rows.now.source in
-    let row = c.advance.new.self.row in
-    let next = goes_on judges s c.loop-remaining.rows.source c.loop-remaining.invariant.source c.loop-remaining.rows.rest c.advance.new.self.rest row c.if-not-advance.ensures.next in
-    let front = ap (first_rows c.loop-remaining.remaining) next ∙ c.loop-remaining-test.ensures.one row (passing_over judges s c.advance.new.self.rest) in
+    let s = (left_in c.args.rows.now).source in
+    let row = (left_in c.advance.new.self).row in
+    let next = goes_on judges s (left_in c.loop-remaining.rows).source c.loop-remaining.invariant.source (left_in c.loop-remaining.rows).rest (left_in c.advance.new.self).rest row c.if-not-advance.ensures.next in
+    let front = ap (first_rows c.loop-remaining.remaining) next ∙ c.loop-remaining-test.ensures.one row (passing_over judges s (left_in c.advance.new.self).rest) in
     let one = ap length next in
     let ahead = ap length front in
     let same = c.loop-remaining.invariant.more in
-    tried_some judges s c.args.rows.now.rest c.advance.new.self.rest (page_rows judges c.args.rows.now c.args.limit)
-    (ends_on c.args.rows.now.rest c.loop-remaining.rows.rest c.advance.new.self.rest c.loop-remaining.invariant.tried c.advance.ensures.left)
+    tried_some judges s (left_in c.args.rows.now).rest (left_in c.advance.new.self).rest (page_rows judges (left_in c.args.rows.now) c.args.limit)
+    (ends_on (left_in c.args.rows.now).rest (left_in c.loop-remaining.rows).rest (left_in c.advance.new.self).rest c.loop-remaining.invariant.tried c.advance.ensures.left)
     c.args.steps.now c.advance.new.steps (omega (arith, one, ahead, same))
-    (took_found judges s c.loop-remaining.rows.source c.loop-remaining.invariant.source c.args.rows.now.rest c.loop-remaining.rows.rest
-    c.advance.new.self.rest c.loop-remaining.invariant.tried c.advance.ensures.left
+    (took_found judges s (left_in c.loop-remaining.rows).source c.loop-remaining.invariant.source (left_in c.args.rows.now).rest (left_in c.loop-remaining.rows).rest
+    (left_in c.advance.new.self).rest c.loop-remaining.invariant.tried c.advance.ensures.left
     c.args.steps.now c.loop-remaining.steps c.advance.new.steps c.loop-remaining.invariant.steps c.advance.result (search rules) c.advance.ensures.steps)
 
 pub loop-remaining-smaller : goal.loop-remaining-smaller
 loop-remaining-smaller g c =
-    further g.J.Judge.judges c.loop-remaining.rows.source c.loop-remaining.rows.rest c.advance.new.self.rest c.advance.new.self.row c.advance.ensures.left c.if-not-advance.ensures.next
+    further g.J.Judge.judges (left_in c.loop-remaining.rows).source (left_in c.loop-remaining.rows).rest (left_in c.advance.new.self).rest (left_in c.advance.new.self).row c.advance.ensures.left c.if-not-advance.ensures.next
 
 pub loop-remaining-preserved : goal.loop-remaining-preserved
 loop-remaining-preserved g c =
     let judges = g.J.Judge.judges in
-    let s = c.args.rows.now.source in
-    let row = c.advance.new.self.row in
+    let s = (left_in c.args.rows.now).source in
+    let row = (left_in c.advance.new.self).row in
     let page = c.args.page.now in
-    let next = goes_on judges s c.loop-remaining.rows.source c.loop-remaining.invariant.source c.loop-remaining.rows.rest c.advance.new.self.rest row c.if-not-advance.ensures.next in
-    let front = ap (first_rows c.loop-remaining.remaining) next ∙ c.loop-remaining-test.ensures.one row (passing_over judges s c.advance.new.self.rest) in
+    let next = goes_on judges s (left_in c.loop-remaining.rows).source c.loop-remaining.invariant.source (left_in c.loop-remaining.rows).rest (left_in c.advance.new.self).rest row c.if-not-advance.ensures.next in
+    let front = ap (first_rows c.loop-remaining.remaining) next ∙ c.loop-remaining-test.ensures.one row (passing_over judges s (left_in c.advance.new.self).rest) in
     let one = ap length next in
     let ahead = ap length front in
-    let fits = fits_page judges s c.loop-remaining.rows.source c.loop-remaining.invariant.source [] [] row c.if-not-advance.ensures.fits in
+    let fits = fits_page judges s (left_in c.loop-remaining.rows).source c.loop-remaining.invariant.source [] [] row c.if-not-advance.ensures.fits in
     record {
       source = c.advance.ensures.source ∙ c.loop-remaining.invariant.source;
       same = still_same page c.loop-remaining.page c.put.new.self c.loop-remaining.invariant.same c.put.ensures.same;
@@ -126,11 +127,11 @@ loop-remaining-preserved g c =
           (g.O.Sink.told c.args.out.now) (g.O.Sink.told c.loop-remaining.out) (g.O.Sink.told c.put.new.out) _ _ _ front c.loop-remaining.invariant.so_far _ c.in_default.ensures.ok;
       later = omega (arith, c.loop-remaining.invariant.later, c.put.ensures.later);
       last = fits_now page page refl row row refl s c.requires.over fits;
-      end = sym (ap (λ (rows : List SpanRow). page_end rows (row_if c.loop-remaining.some c.loop-remaining.rows.row)) front) ∙ c.loop-remaining.invariant.end;
+      end = sym (ap (λ (rows : List SpanRow). page_end rows (row_if c.loop-remaining.some (left_in c.loop-remaining.rows).row)) front) ∙ c.loop-remaining.invariant.end;
       more = omega (arith, c.loop-remaining.invariant.more, one, ahead);
-      tried = ends_on c.args.rows.now.rest c.loop-remaining.rows.rest c.advance.new.self.rest c.loop-remaining.invariant.tried c.advance.ensures.left;
-      steps = took_found judges s c.loop-remaining.rows.source c.loop-remaining.invariant.source c.args.rows.now.rest c.loop-remaining.rows.rest
-          c.advance.new.self.rest c.loop-remaining.invariant.tried c.advance.ensures.left
+      tried = ends_on (left_in c.args.rows.now).rest (left_in c.loop-remaining.rows).rest (left_in c.advance.new.self).rest c.loop-remaining.invariant.tried c.advance.ensures.left;
+      steps = took_found judges s (left_in c.loop-remaining.rows).source c.loop-remaining.invariant.source (left_in c.args.rows.now).rest (left_in c.loop-remaining.rows).rest
+          (left_in c.advance.new.self).rest c.loop-remaining.invariant.tried c.advance.ensures.left
           c.args.steps.now c.loop-remaining.steps c.advance.new.steps c.loop-remaining.invariant.steps c.advance.result (search rules) c.advance.ensures.steps;
     }
 
@@ -142,12 +143,12 @@ returns-clause-source g c = c.advance-more.ensures.source ∙ c.loop-remaining.i
 pub returns-clause-ok : goal.returns-clause-ok
 returns-clause-ok g c =
     let judges = g.J.Judge.judges in
-    let s = c.args.rows.now.source in
+    let s = (left_in c.args.rows.now).source in
     let page = c.args.page.now in
-    let none = c.loop-remaining-test.ensures.none (passing_over judges s c.loop-remaining.rows.rest) in
-    rows_passed (g.O.Sink.told c.args.out.now) (g.O.Sink.told c.loop-remaining.out) page.waiting c.loop-remaining.page.waiting (lines_of page (page_rows judges c.args.rows.now c.args.limit))
+    let none = c.loop-remaining-test.ensures.none (passing_over judges s (left_in c.loop-remaining.rows).rest) in
+    rows_passed (g.O.Sink.told c.args.out.now) (g.O.Sink.told c.loop-remaining.out) page.waiting c.loop-remaining.page.waiting (lines_of page (page_rows judges (left_in c.args.rows.now) c.args.limit))
     (subst (λ (left : List SpanRow). SoFar (change (g.O.Sink.told c.args.out.now) (g.O.Sink.told c.loop-remaining.out)) c.loop-remaining.page.waiting (lines_of page left)
-    (page.waiting ++ lines_of page (page_rows judges c.args.rows.now c.args.limit))) none c.loop-remaining.invariant.so_far)
+    (page.waiting ++ lines_of page (page_rows judges (left_in c.args.rows.now) c.args.limit))) none c.loop-remaining.invariant.so_far)
 
 pub returns-clause-fits : goal.returns-clause-fits
 returns-clause-fits g c =
@@ -156,23 +157,23 @@ returns-clause-fits g c =
 pub returns-clause-end : goal.returns-clause-end
 returns-clause-end g c =
     let judges = g.J.Judge.judges in
-    let s = c.args.rows.now.source in
-    let none = c.loop-remaining-test.ensures.none (passing_over judges s c.loop-remaining.rows.rest) in
-    let last = row_if c.loop-remaining.some c.loop-remaining.rows.row in
+    let s = (left_in c.args.rows.now).source in
+    let none = c.loop-remaining-test.ensures.none (passing_over judges s (left_in c.loop-remaining.rows).rest) in
+    let last = row_if c.loop-remaining.some (left_in c.loop-remaining.rows).row in
     let empty = ap length none in
     let same = c.loop-remaining.invariant.more in
-    ends_after judges s c.loop-remaining.rows.source c.loop-remaining.invariant.source c.loop-remaining.rows.rest c.advance-more.new.self.rest
-    (page_rows judges c.args.rows.now c.args.limit) (coming judges c.args.rows.now)
-    c.advance-more.new.self.row c.last_row-last.result last c.advance-more.result _ c.advance-more.ensures.next c.advance-more.ensures.none (omega (arith, empty, same)) c.last_row-last.ensures
+    ends_after judges s (left_in c.loop-remaining.rows).source c.loop-remaining.invariant.source (left_in c.loop-remaining.rows).rest (left_in c.advance-more.new.self).rest
+    (page_rows judges (left_in c.args.rows.now) c.args.limit) (coming judges (left_in c.args.rows.now))
+    (left_in c.advance-more.new.self).row c.last_row-last.result last c.advance-more.result _ c.advance-more.ensures.next c.advance-more.ensures.none (omega (arith, empty, same)) c.last_row-last.ensures
     (sym (ap (λ (rows : List SpanRow). page_end rows last) none) ∙ c.loop-remaining.invariant.end)
 
 pub returns-clause-steps : goal.returns-clause-steps
 returns-clause-steps g c =
     let judges = g.J.Judge.judges in
-    let s = c.args.rows.now.source in
-    let none = ap length (c.loop-remaining-test.ensures.none (passing_over judges s c.loop-remaining.rows.rest)) in
+    let s = (left_in c.args.rows.now).source in
+    let none = ap length (c.loop-remaining-test.ensures.none (passing_over judges s (left_in c.loop-remaining.rows).rest)) in
     let same = c.loop-remaining.invariant.more in
-    last_try judges s c.loop-remaining.rows.source c.loop-remaining.invariant.source c.args.rows.now.rest c.loop-remaining.rows.rest
-    c.advance-more.new.self.rest c.loop-remaining.invariant.tried c.advance-more.ensures.left
-    c.args.steps.now c.loop-remaining.steps c.advance-more.new.steps c.loop-remaining.invariant.steps (page_rows judges c.args.rows.now c.args.limit) c.advance-more.new.self.row c.advance-more.result
+    last_try judges s (left_in c.loop-remaining.rows).source c.loop-remaining.invariant.source (left_in c.args.rows.now).rest (left_in c.loop-remaining.rows).rest
+    (left_in c.advance-more.new.self).rest c.loop-remaining.invariant.tried c.advance-more.ensures.left
+    c.args.steps.now c.loop-remaining.steps c.advance-more.new.steps c.loop-remaining.invariant.steps (page_rows judges (left_in c.args.rows.now) c.args.limit) (left_in c.advance-more.new.self).row c.advance-more.result
     c.advance-more.ensures.next c.advance-more.ensures.none (omega (arith, none, same)) c.advance-more.ensures.steps

@@ -2,6 +2,7 @@ use Rattle.std.proofs.Common.{◌≡◌, ◌+◌, ◌-◌, ◌^◌, ℕ, List, [
 use Rattle.std.specs.Prelude.{slice_get}
 use Rattle.spanner_model.specs.Answers.{SpanRow, page_end}
 use Rattle.spanner_engine.specs.Left.{checks_over, passing_over}
+use Rattle.spanner_engine.specs.Borrowed.{left_in}
 use Rattle.spanner_model.specs.Passing.{known}
 use Rattle.rematch_program.specs.Trials.{later_row}
 use Rattle.rematch_program.specs.Taking.{coming}
@@ -14,11 +15,11 @@ use Rattle.rematch_program.proofs.summary.count_rows.Goals as goal
 
 pub loop-row-init : goal.loop-row-init
 loop-row-init g c =
-    let s = c.args.rows.now.source in
+    let s = (left_in c.args.rows.now).source in
     let next = c.in-Some.ensures.next in
     let one = ap length next in
     let took = c.in-Some.ensures.steps in
-    let count : 1 + length (passing_over g.J.Judge.judges s c.next.new.self.rest) ≡ length (coming g.J.Judge.judges c.args.rows.now) = omega (arith, one) in
+    let count : 1 + length (passing_over g.J.Judge.judges s (left_in c.next.new.self).rest) ≡ length (coming g.J.Judge.judges (left_in c.args.rows.now)) = omega (arith, one) in
     record {
       source = c.in-Some.ensures.source;
       rows = ap (λ (n : ℕ). min n (2 ^ 64 - 1)) count;
@@ -33,40 +34,40 @@ loop-row-init g c =
 
 pub loop-row-preserved : goal.loop-row-preserved
 loop-row-preserved g c =
-    let s = c.args.rows.now.source in
-    let t = c.loop-row.rows.source in
-    let old = c.loop-row.rows.rest in
-    let new = c.next-in-loop-row.new.self.rest in
+    let s = (left_in c.args.rows.now).source in
+    let t = (left_in c.loop-row.rows).source in
+    let old = (left_in c.loop-row.rows).rest in
+    let new = (left_in c.next-in-loop-row.new.self).rest in
     let row = c.in-Some-next.row in
     let inv = c.loop-row.invariant in
     let next = goes_on g.J.Judge.judges s t inv.source old new row c.in-Some-next.ensures.next in
     record {
       source = c.in-Some-next.ensures.source ∙ inv.source;
       rows = one_counted c.loop-row.count c.saturating_add-count.result (length (passing_over g.J.Judge.judges s new))
-          (length (passing_over g.J.Judge.judges s old)) (length (coming g.J.Judge.judges c.args.rows.now)) (2 ^ 64 - 1)
+          (length (passing_over g.J.Judge.judges s old)) (length (coming g.J.Judge.judges (left_in c.args.rows.now))) (2 ^ 64 - 1)
           c.saturating_add-count.ensures (ap length next) inv.rows;
       few = omega (arith, c.saturating_add-count.ensures);
       first = inv.first;
       last = sym (ap (λ (rows : List SpanRow). page_end rows (later_row (Some c.in-Some.row) c.loop-row.later)) next) ∙ inv.last;
       first_fits = inv.first_fits;
       later_fits = fits_page g.J.Judge.judges s t inv.source [] [] row c.in-Some-next.ensures.fits;
-      tried = ends_on c.args.rows.now.rest old new inv.tried c.in-Some-next.ensures.left;
-      steps = took_found g.J.Judge.judges s t inv.source c.args.rows.now.rest old new inv.tried c.in-Some-next.ensures.left c.args.steps.now
+      tried = ends_on (left_in c.args.rows.now).rest old new inv.tried c.in-Some-next.ensures.left;
+      steps = took_found g.J.Judge.judges s t inv.source (left_in c.args.rows.now).rest old new inv.tried c.in-Some-next.ensures.left c.args.steps.now
           c.loop-row.steps c.next-in-loop-row.new.steps inv.steps true refl c.in-Some-next.ensures.steps;
     }
 
 pub returns-clause-rows : goal.returns-clause-rows
 returns-clause-rows g c =
-    let s = c.args.rows.now.source in
+    let s = (left_in c.args.rows.now).source in
     let inv = c.loop-row.invariant in
-    let none = goes_out g.J.Judge.judges s c.loop-row.rows.source inv.source c.loop-row.rows.rest [] [] c.in_default.ensures.next.0 in
-    rows_all c.loop-row.count (2 ^ 64 - 1) (length (coming g.J.Judge.judges c.args.rows.now)) (passing_over g.J.Judge.judges s c.loop-row.rows.rest) none inv.few inv.rows
+    let none = goes_out g.J.Judge.judges s (left_in c.loop-row.rows).source inv.source (left_in c.loop-row.rows).rest [] [] c.in_default.ensures.next.0 in
+    rows_all c.loop-row.count (2 ^ 64 - 1) (length (coming g.J.Judge.judges (left_in c.args.rows.now))) (passing_over g.J.Judge.judges s (left_in c.loop-row.rows).rest) none inv.few inv.rows
 
 pub returns-clause-steps : goal.returns-clause-steps
 returns-clause-steps g c =
-    let s = c.args.rows.now.source in
+    let s = (left_in c.args.rows.now).source in
     let inv = c.loop-row.invariant in
-    trial_takes (checks_over g.J.Judge.judges s) s.names s.document c.args.rows.now.rest (length s.asked) c.args.steps.now
+    trial_takes (checks_over g.J.Judge.judges s) s.names s.document (left_in c.args.rows.now).rest (length s.asked) c.args.steps.now
     c.next-in-loop-row.new.steps (length_checks (known s.tests g.J.Judge.judges) s.asked)
-    (took_none g.J.Judge.judges s c.loop-row.rows.source inv.source c.args.rows.now.rest c.loop-row.rows.rest c.next-in-loop-row.new.self.rest inv.tried c.in_default.ensures.left
+    (took_none g.J.Judge.judges s (left_in c.loop-row.rows).source inv.source (left_in c.args.rows.now).rest (left_in c.loop-row.rows).rest (left_in c.next-in-loop-row.new.self).rest inv.tried c.in_default.ensures.left
     c.args.steps.now c.loop-row.steps c.next-in-loop-row.new.steps inv.steps false refl c.in_default.ensures.next.1 c.in_default.ensures.steps)

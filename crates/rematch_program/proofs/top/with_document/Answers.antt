@@ -5,12 +5,13 @@ use Rattle.spanner_model.specs.Captures.{VarName}
 use Rattle.spanner_model.specs.ExprView.{query_of}
 use Rattle.spanner_model.specs.Passing.{known}
 use Rattle.spanner_engine.specs.Left.{Source, over}
+use Rattle.spanner_engine.specs.Borrowed.{left_in}
 use Rattle.rm_outside.specs.Change.{change}
 use Rattle.note_texts.specs.Notes.{note_bytes}
 use Rattle.rematch_program.specs.Run.{not_begun}
 use Rattle.rematch_program.proofs.Answered.{page_answered, result_last, result_names}
 use Rattle.rematch_program.proofs.RestLaws.{has_width}
-use Rattle.rematch_program.proofs.KnownTests.{known_kept}
+use Rattle.spanner_engine.proofs.KnownTests.{known_kept}
 use Rattle.rematch_program.proofs.top.with_document.Goals as goal
 
 pub begun-requires-clause-width : goal.begun-requires-clause-width
@@ -32,9 +33,9 @@ returns-in-Ok g c =
     let asking = c.args.asking.now in
     let s : Source = over asking.tested.now.asked asking.tests.now asking.compiled.automaton.names c.args.document.now in
     let out = change (g.O.Sink.told c.args.out.now) (g.O.Sink.told c.write_page.new.out) in
-    let source = subst (λ (ns : List VarName). c.new-rows.result.source ≡ over asking.tested.now.asked asking.tests.now ns c.args.document.now) c.vars.ensures c.new-rows.ensures.source in
+    let source = subst (λ (ns : List VarName). (left_in c.new-rows.result).source ≡ over asking.tested.now.asked asking.tests.now ns c.args.document.now) c.vars.ensures c.new-rows.ensures.source in
     record {
-      case = page_answered g.J.Judge.judges s c.in-Ok.answers.rest c.new-rows.result source c.new-rows.ensures.rest (request_view asking.request.now) (query_of asking.compiled.query) out
+      case = page_answered g.J.Judge.judges s c.in-Ok.answers.rest (left_in c.new-rows.result) source (ap (λ a. a.rest) c.new-rows.ensures.answers) (request_view asking.request.now) (query_of asking.compiled.query) out
           c.write_page.result.status (note_bytes c.write_page.result.note) c.args.steps.now c.begun.new.steps c.write_page.new.steps (option_copied c.args.after)
           c.requires.plain c.in-Ok.ensures.fits c.in-Ok.ensures.held c.in-Ok.ensures.left c.in-Ok.ensures.steps c.write_page.ensures.case;
     }

@@ -1,6 +1,6 @@
-use Rattle.std.proofs.Common.{◌↔◌, IsTrue, refl, ap, ◌∙◌, sym, subst, arith}
+use Rattle.std.proofs.Common.{◌↔◌, IsTrue, refl, ap, ◌∙◌, arith}
 use Rattle.span_core.proofs.HasLaws.{Has-slice_get}
-use Rattle.spanner_model.specs.Expression.{ExprTree, union_all}
+use Rattle.spanner_model.specs.Expression.{union_all}
 use Rattle.spanner_model.specs.ExprView.{expr_of, exprs_of}
 use Rattle.spanner_model.proofs.ExprLaws.{part_size, union_size}
 use Rattle.spanner_model.proofs.ExprTrees.{expr_of-Join, expr_of-Union}
@@ -61,4 +61,4 @@ has_minus_in-returns-in-Union t c =
     let both = c.has_minus_among.ensures in
     let same = minus_union es in
     let here : IsTrue b ↔ HasMinusIn (union_all es) = (λ h. same.0 (both.0 h), λ h. both.1 (same.1 h)) in
-    subst (λ (e : ExprTree). IsTrue b ↔ HasMinusIn e) (sym is) here
+    rw is here

@@ -1,13 +1,11 @@
-use Rattle.std.specs.Prelude.{OnOk}
-use Rattle.std.proofs.Common.{IfErr, IfOk, sym, ap, ◌∙◌, subst, arith}
+use Rattle.std.proofs.Common.{ap, ◌∙◌, subst, arith}
 use Rattle.std.proofs.lemmas.Result.{IfOk-weaker, on_ok_weaker, IfErr-weaker}
 use Rattle.span_core.proofs.HasLaws.{Has-slice_get}
-use Rattle.spanner_model.specs.Expression.{ExprTree, join_all, union_all}
+use Rattle.spanner_model.specs.Expression.{join_all, union_all}
 use Rattle.spanner_model.specs.ExprView.{expr_of, exprs_of}
 use Rattle.spanner_model.proofs.ExprLaws.{part_size, union_size}
 use Rattle.spanner_model.proofs.ExprTrees.{expr_of-Join, expr_of-Union}
 use Rattle.spanner_model.proofs.Nodes.{expr_nodes}
-use Rattle.spanner_engine.specs.Touching.{SomeAtom}
 use Rattle.spanner_engine.specs.Filtering.{AddsTouched, HasFullAtom, IsHeavy, IsInSound, steps_in}
 use Rattle.spanner_engine.proofs.AtomWalk.{full_part, full_union, join_sound, none_all, none_more, none_union, steps_first, steps_more, steps_part, steps_union, touched_all, touched_more, touched_none, touched_union, union_sound}
 use Rattle.spanner_engine.proofs.Results.{handed_on}
@@ -82,7 +80,7 @@ touched_in-returns-in-Union-clause-touched g t c =
     let es = exprs_of c.in-Union.parts in
     let is = ap expr_of c.in-Union.is ∙ expr_of-Union c.in-Union.parts in
     let r = c.touched_among.result in
-    subst (λ (e : ExprTree). IfOk r (AddsTouched d e c.args.before)) (sym is)
+    rw is
     (IfOk-weaker r (AddsTouched d (join_all es) c.args.before) (AddsTouched d (union_all es) c.args.before) (touched_union d es c.args.before) c.touched_among.ensures.touched)
 
 pub touched_in-returns-in-Union-clause-within : goal.touched_in-returns-in-Union-clause-within
@@ -91,7 +89,7 @@ touched_in-returns-in-Union-clause-within g t c =
     let es = exprs_of c.in-Union.parts in
     let is = ap expr_of c.in-Union.is ∙ expr_of-Union c.in-Union.parts in
     let r = c.touched_among.result in
-    subst (λ (e : ExprTree). OnOk r (¬ SomeAtom P e)) (sym is) (on_ok_weaker r (none_union P es) c.touched_among.ensures.within)
+    rw is (on_ok_weaker r (none_union P es) c.touched_among.ensures.within)
 
 pub touched_in-returns-in-Union-clause-fault : goal.touched_in-returns-in-Union-clause-fault
 touched_in-returns-in-Union-clause-fault g t c =
@@ -99,7 +97,7 @@ touched_in-returns-in-Union-clause-fault g t c =
     let es = exprs_of c.in-Union.parts in
     let is = ap expr_of c.in-Union.is ∙ expr_of-Union c.in-Union.parts in
     let r = c.touched_among.result in
-    subst (λ (e : ExprTree). IfErr r (HasFullAtom d c.args.limit e)) (sym is)
+    rw is
     (IfErr-weaker r (HasFullAtom d c.args.limit (join_all es)) (HasFullAtom d c.args.limit (union_all es)) (full_union d c.args.limit es) c.touched_among.ensures.fault)
 
 pub touched_in-returns-in-Union-clause-steps : goal.touched_in-returns-in-Union-clause-steps

@@ -1,7 +1,5 @@
-use Rattle.std.proofs.Common.{ℕ, ◌↔◌, Bool, IfOk, List, length, subst, sym}
-use Rattle.span_core.specs.Intervals.{Covers}
+use Rattle.std.proofs.Common.{length}
 use Rattle.spanner_model.specs.ExprView.{query_of}
-use Rattle.spanner_engine.specs.Begun.{IsReadAt}
 use Rattle.spanner_engine.proofs.ReadAt.{covers_whole, read_whole}
 use Rattle.spanner_engine.proofs.positions.positions_read.Goals as goal
 
@@ -13,5 +11,4 @@ returns-clause-read g c = λ i.
 
 pub returns-then-leaves_out-clause-read : goal.returns-then-leaves_out-clause-read
 returns-then-leaves_out-clause-read g c =
-    subst (λ (filter : Bool). IfOk c.touched_by_query.result (λ (t : List (ℕ × ℕ)). (i : ℕ) → Covers t i ↔ IsReadAt filter (query_of c.args.query.now) c.args.doc.now i))
-    (sym c.if-leaves_out.ensures.yes.0) c.touched_by_query.ensures.touched
+    rw c.if-leaves_out.ensures.yes.0 c.touched_by_query.ensures.touched

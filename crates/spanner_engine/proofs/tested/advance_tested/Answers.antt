@@ -1,27 +1,21 @@
 use Rattle.std.proofs.Common.{◌≡◌, ◌∙◌, ◌∷◌, ◌++◌, [], sym, length, false}
-use Rattle.spanner_model.specs.ExprView.{query_of}
 use Rattle.spanner_model.specs.Passing.{checks_of, known}
-use Rattle.spanner_engine.proofs.PassingLaws.{first_fits, last_further, last_rest, more_fail, one_tried, steps_more}
+use Rattle.spanner_engine.proofs.PassingLaws.{more_fail, one_left, one_tried, steps_more, tried_fits}
 use Rattle.spanner_engine.proofs.tested.advance_tested.Goals as goal
 
-pub returns-then-len-eq0-clause-last : goal.returns-then-len-eq0-clause-last
-returns-then-len-eq0-clause-last g c =
-    last_further (query_of c.args.tested.now.query) c.args.doc.now c.args.vars.now c.advance.result _ _ _ _ c.advance.ensures.next c.advance.ensures.none c.requires.last
+pub returns-then-len-eq0-clause-left : goal.returns-then-len-eq0-clause-left
+returns-then-len-eq0-clause-left g c = one_left c.advance.result _ _ _ _ c.advance.ensures.next c.advance.ensures.none
 
 pub all_hold-requires-clause-fits : goal.all_hold-requires-clause-fits
 all_hold-requires-clause-fits g c =
-    let q = query_of c.args.tested.now.query in
     let (front, is, fail, steps) = c.loop-answers.invariant.tried in
-    let last = last_rest q c.args.doc.now c.args.vars.now front _ _ is c.requires.last in
-    first_fits q c.args.doc.now c.args.vars.now c.loop-answers.answers.rest c.advance-in-loop-answers.new.self.rest
-    c.advance-in-loop-answers.new.self.row c.spans.result.now last c.loop-answers-test.ensures.next c.spans.ensures
+    tried_fits (length c.args.vars.now) (length c.args.doc.now) c.args.answers.now.rest c.advance-in-loop-answers.new.self.rest front c.loop-answers.answers.rest _ c.spans.result.now
+    c.requires.fits is c.loop-answers-test.ensures.next c.spans.ensures
 
-pub returns-then-all_hold-clause-last : goal.returns-then-all_hold-clause-last
-returns-then-all_hold-clause-last g c =
-    let q = query_of c.args.tested.now.query in
+pub returns-then-all_hold-clause-left : goal.returns-then-all_hold-clause-left
+returns-then-all_hold-clause-left g c =
     let (front, is, fail, steps) = c.loop-answers.invariant.tried in
-    let last = last_rest q c.args.doc.now c.args.vars.now front _ _ is c.requires.last in
-    last_further q c.args.doc.now c.args.vars.now c.advance-in-loop-answers.result _ _ _ _ c.advance-in-loop-answers.ensures.next c.advance-in-loop-answers.ensures.none last
+    (front ++ c.advance-in-loop-answers.new.self.row ∷ [], one_tried front c.loop-answers.answers.rest _ c.args.answers.now.rest _ is c.loop-answers-test.ensures.next)
 
 pub loop-answers-preserved : goal.loop-answers-preserved
 loop-answers-preserved g c =
