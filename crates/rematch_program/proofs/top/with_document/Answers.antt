@@ -1,4 +1,4 @@
-use Rattle.std.proofs.Common.{◌≡◌, rules, subst, List}
+use Rattle.std.proofs.Common.{◌≡◌, rules, ap, subst, List}
 use Rattle.std.specs.Option.{option_copied}
 use Rattle.command_line.specs.RequestView.{request_view}
 use Rattle.spanner_model.specs.Captures.{VarName}

@@ -1,4 +1,4 @@
-use Rattle.std.proofs.Common.{◌≡◌, None, List, subst}
+use Rattle.std.proofs.Common.{◌≡◌, None, List, ap, subst}
 use Rattle.command_line.specs.RequestView.{request_view}
 use Rattle.spanner_model.specs.Captures.{VarName}
 use Rattle.spanner_model.specs.ExprView.{query_of}
