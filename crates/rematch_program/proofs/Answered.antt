@@ -1,5 +1,5 @@
 -- From what was written of the rows that were left to a case of the run.
-use Rattle.std.proofs.Common.{◌≡◌, ℕ, Bool, List, Option, None, suc, length, sym, subst}
+use Rattle.std.proofs.Common.{◌≡◌, ℕ, Bool, List, Option, None, suc, length, subst}
 use Rattle.std.specs.Prelude.{codes, nat_lt}
 use Rattle.std.proofs.lemmas.Bool.{le-leb, leb-true}
 use Rattle.rm_outside.specs.declared.status.Status.{Status}
@@ -27,12 +27,12 @@ use Rattle.rematch_program.proofs.PassingPages.{all_passing, left_last, page_kee
 
 -- what is known of the compiled query, told of the query itself
 pub result_names : (q r : Query) (names others : List VarName) → q ≡ r → others ≡ names → AreResultNames (query_of q) names → AreResultNames (query_of r) others
-result_names q r names others same are named = subst (λ (ns : List VarName). AreResultNames (query_of r) ns) (sym are) (subst (λ (p : Query). AreResultNames (query_of p) names) same named)
+result_names q r names others same are named = rw are (rw (← same) named)
 
 pub result_last : (q r : Query) (d : List ℕ) (names others : List VarName) (after : Option SpanRow) (rest : List SpanRow) → q ≡ r → others ≡ names → AreLeft (query_of q) d names after rest →
     AreLast (query_of r) d others rest
 result_last q r d names others after rest same are left =
-    subst (λ (ns : List VarName). AreLast (query_of r) d ns rest) (sym are) (subst (λ (p : Query). AreLast (query_of p) d names rest) same (left_last (query_of q) d names after rest left))
+    rw are (rw (← same) (left_last (query_of q) d names after rest left))
 
 -- the rows are over s, and these answers were left of them
 module _ (judges : ℕ → List ℕ → Bool) (s : Source) (rest : List SpanRow) (r : RowsLeft) (over : r.source ≡ s) (are : r.rest ≡ rest) (a : RequestView)
@@ -70,7 +70,7 @@ module _ (judges : ℕ → List ℕ → Bool) (s : Source) (rest : List SpanRow)
   summary_written lines h =
       let At : Source → List SpanRow → Type 0 = λ u rows. FromPage (work out (clock mid new)) end note (trial_summary lines u.names u.document (passing_over judges u rows)) (line (codes "end"))
       (TrialTakes (checks_over judges u) u.names rows (passing_over judges u rows)) in
-      subst (At s) are (subst (λ (u : Source). At u r.rest) over h)
+      subst (At s) are (rw (← over) h)
 
   pub trial_answered : (lines : ℕ) → a.mode ≡ mode.Trial lines → IsHeldWithin a.filter q s.document a.max_table → AreLeft q s.document s.names None rest →
       KeepsWithin a.filter q s.document (λ K. begin_steps a.filter q s.document K None) (clock old mid) →

@@ -1,5 +1,5 @@
 -- Queries of functional formulas are served as before.
-use Rattle.std.proofs.Common.{◌≡◌, ℕ, ◌++◌, ◌∙◌, List, [], ◌∷◌, Option, Some, refl, sym, ap, subst, arith, codes, suc, zero, inl, inr}
+use Rattle.std.proofs.Common.{◌≡◌, ℕ, ◌++◌, ◌∙◌, List, [], ◌∷◌, Some, refl, ap, arith, codes, suc, zero, inl, inr}
 use Rattle.std.specs.Fmt.{decimal}
 use Rattle.std.specs.List.{All}
 use Rattle.std.specs.Option.{IsSome}
@@ -25,7 +25,7 @@ module _ (q : QueryTree) (d : List ℕ) (names : List VarName) (rows : List Span
   now_answers a = record {
     in_order = a.in_order;
     each_answers = λ row has. let (m, answer, is) = a.each_answers row has in (m, (query_answers q d m f).0 answer, is);
-    all_there = λ row answer. let (m, now, is) = answer in subst (λ (r : SpanRow). Has rows r) (sym is) (a.all_there m ((query_answers q d m f).1 now));
+    all_there = λ row answer. let (m, now, is) = answer in rw is (a.all_there m ((query_answers q d m f).1 now));
   }
 
   answered_before : AreAnswers q d names rows → AreTotalAnswers q d names rows
@@ -37,14 +37,14 @@ module _ (q : QueryTree) (d : List ℕ) (names : List VarName) (rows : List Span
 
 given_row : (names : List VarName) (m : Mapping) → ((x : VarName) → Has names x → (s : Span) × (m x ≡ Some s)) → All IsSome (row_of names m)
 given_row [] m given k o l = absurd (omega arith)
-given_row (x ∷ names) m given zero o l = let g = given x (inl refl) in subst (λ (p : Option Span). IsSome p) (sym g.1) refl
+given_row (x ∷ names) m given zero o l = let g = given x (inl refl) in rw g.1 refl
 given_row (x ∷ names) m given (suc k) o l = given_row names m (λ y h. given y (inr h)) k o (omega (arith, l))
 
 no_absent : (q : QueryTree) (d : List ℕ) (names : List VarName) (rows : List SpanRow) → IsFunctionalQuery q → AreResultNames q names → AreAnswers q d names rows →
     (row : SpanRow) → Has rows row → All IsSome row
 no_absent q d names rows f are a row has =
     let (m, answer, is) = a.each_answers row has in
-    subst (λ (r : SpanRow). All IsSome r) (sym is) (given_row names m (λ x h. query_given q d m answer x (query_sure q f x ((are.1 x).0 h))))
+    rw is (given_row names m (λ x h. query_given q d m answer x (query_sure q f x ((are.1 x).0 h))))
 
 abbrev line_of : ℕ → ℕ → ℕ → List ℕ
 line_of k states ways = line (codes "atom " ++ decimal k ++ codes " states " ++ shown_number states ++ codes " ways " ++ shown_number ways)

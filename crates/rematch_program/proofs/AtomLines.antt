@@ -1,5 +1,5 @@
 -- The lines of atoms, part by part.
-use Rattle.std.proofs.Common.{◌≡◌, ℕ, suc, ◌+◌, List, [], ◌∷◌, ◌++◌, Some, Result, Ok, Err, IfOk, length, drop, take, refl, sym, ap, ◌∙◌, subst, arith, length-append}
+use Rattle.std.proofs.Common.{◌≡◌, ℕ, suc, ◌+◌, List, [], ◌∷◌, ◌++◌, Some, Result, Ok, Err, IfOk, length, drop, take, refl, sym, ap, ◌∙◌, arith, length-append}
 use Rattle.std.proofs.lemmas.Grind.{flat_map-append}
 use Rattle.std.specs.Prelude.{slice_get}
 use Rattle.std.proofs.lemmas.List.{append-nil, append_assoc}
@@ -50,7 +50,7 @@ part_lines before old parts k e mid text all new at first then_ =
     let one : take (k + 1) parts ≡ take k parts ++ e ∷ [] = take_at_more parts k e at in
     let atoms : atoms_among (take (k + 1) parts) ≡ atoms_among (take k parts) ++ atoms_of e =
     ap atoms_among one ∙ flat_map-append atoms_of (take k parts) (e ∷ []) ∙ ap (λ t. atoms_among (take k parts) ++ t) (append-nil (atoms_of e)) in
-    subst (λ xs. HasLines before old xs all new) (sym atoms) (more_lines before old (atoms_among (take k parts)) mid text (atoms_of e) all new first then_)
+    rw atoms (more_lines before old (atoms_among (take k parts)) mid text (atoms_of e) all new first then_)
 
 -- one named expression more
 pub let_lines : (before : ℕ) (old : List ℕ) (lets : List (VarName × ExprTree)) (k : ℕ) (name : VarName) (e : ExprTree) (mid : ℕ) (text : List ℕ)
@@ -60,7 +60,7 @@ let_lines before old lets k name e mid text all new at first then_ =
     let one : take (k + 1) lets ≡ take k lets ++ (name, e) ∷ [] = take_at_more lets k (name, e) at in
     let atoms : atoms_in (take (k + 1) lets) ≡ atoms_in (take k lets) ++ atoms_of e =
     ap atoms_in one ∙ flat_map-append (λ (l : VarName × ExprTree). atoms_of l.1) (take k lets) ((name, e) ∷ []) ∙ ap (λ t. atoms_in (take k lets) ++ t) (append-nil (atoms_of e)) in
-    subst (λ xs. HasLines before old xs all new) (sym atoms) (more_lines before old (atoms_in (take k lets)) mid text (atoms_of e) all new first then_)
+    rw atoms (more_lines before old (atoms_in (take k lets)) mid text (atoms_of e) all new first then_)
 
 -- one name more
 pub name_next : (old text mid new all x : List ℕ) (names : List VarName) (k : ℕ) → slice_get names k ≡ Some x → mid ≡ text ++ 32 ∷ [] → new ≡ mid ++ x →

@@ -2,7 +2,7 @@
 use Rattle.std.proofs.Common.{◌≡◌, ◌≢◌, ◌∙◌, refl, sym, ap, subst, List, [], ◌∷◌, ◌++◌, Bool, true, false, Option, Some, None, inl, inr, codes, append_assoc, append-nil}
 use Rattle.std.specs.Prelude.{ℕ, if◌then◌else◌, not, length, option_and_then, ◌==◌}
 use Rattle.std.proofs.lemmas.Option.{option_and_then_some, same_Some}
-use Rattle.rm_outside.specs.Told.{Told, GrewBy}
+use Rattle.rm_outside.specs.Told.{GrewBy}
 use Rattle.rm_outside.specs.declared.status.Status.{Status}
 use Rattle.span_core.specs.Lists.{AreDistinct}
 use Rattle.span_core.proofs.HasLaws.{Has-append_left}
@@ -36,7 +36,7 @@ grew_by_both (Some x) (Some y) (Some z) xs ys first next = next ∙ (ap (λ (l :
 
 untouched_first : (s : Shelved) (all : List Text) → IsUntouched s → FetchesFirst s all
 untouched_first s all same =
-    record { names = []; rest = all; grew = subst (λ (t : Told). GrewBy [] s.before.fetched t.fetched) (sym same) (grew_by_none s.before.fetched); first = refl }
+    record { names = []; rest = all; grew = rw same (grew_by_none s.before.fetched); first = refl }
 
 -- what is fetched once the query is at hand
 module _ (a : RequestView) (w : Work) (end : Status) (note : Text) (s : Shelved) where
@@ -232,7 +232,7 @@ names_distinct (HeldBy name) (mode.Trial lines) document differ = ((λ h. h), tt
 
 pub fetched_once : FetchesOnce
 fetched_once words a is input names rest first =
-    front_distinct names rest (subst (λ (all : List Text). AreDistinct all) (sym first) (names_distinct a.query a.mode a.document differ))
+    front_distinct names rest (rw first (names_distinct a.query a.mode a.document differ))
   where
     differ : (name : Text) → a.mode ≡ mode.Plain → a.query ≡ HeldBy name → name ≢ a.document
     differ name plain held same =

@@ -1,5 +1,5 @@
 -- Puts one after another.
-use Rattle.std.proofs.Common.{◌≡◌, ℕ, List, [], ◌++◌, Option, ap, ◌∙◌, sym, refl, subst, append_assoc, append-nil, ◌+◌, ◌-◌, ◌≤◌, length, take, drop, zero-add, arith}
+use Rattle.std.proofs.Common.{◌≡◌, ℕ, List, [], ◌++◌, Option, ap, ◌∙◌, sym, refl, append_assoc, append-nil, ◌+◌, ◌-◌, ◌≤◌, length, take, drop, zero-add, arith}
 use Rattle.std.specs.List.{copy_within}
 use Rattle.std.proofs.lemmas.List.{drop-take, length-drop, take-append-drop, take-take}
 use Rattle.std.proofs.lemmas.List.Edits.{take-paste}
@@ -59,17 +59,17 @@ so_far_part old mid new waiting line left left' whole s is p =
     append_assoc s.sent (waiting ++ line) left' ∙ ap (λ xs. s.sent ++ xs) (append_assoc waiting line left' ∙ ap (λ xs. waiting ++ xs) (sym is)) ∙ s.joined in
     let part : AddsPart (change old new) ((s.sent ++ (waiting ++ line)) ++ left') =
     part_more old.bytes new.bytes (s.sent ++ (waiting ++ line)) left' (part_after old.bytes mid.bytes new.bytes s.sent (waiting ++ line) s.adds p) in
-    subst (λ (xs : List ℕ). AddsPart (change old new) xs) whole_is part
+    rw (← whole_is) part
 
 -- what a line passed on, and then all that waited
 pub passes_whole : (old mid new : Flow) (waiting line left : List ℕ) → Passes waiting line left (change old mid) → Adds (change mid new) left → Adds (change old new) (waiting ++ line)
 passes_whole old mid new waiting line left p adds =
-    subst (λ (xs : List ℕ). Adds (change old new) xs) p.joined (Appends-trans old.bytes mid.bytes new.bytes p.sent left p.adds adds)
+    rw (← p.joined) (Appends-trans old.bytes mid.bytes new.bytes p.sent left p.adds adds)
 
 -- or a part of it
 pub passes_part : (old mid new : Flow) (waiting line left : List ℕ) → Passes waiting line left (change old mid) → AddsPart (change mid new) left → AddsPart (change old new) (waiting ++ line)
 passes_part old mid new waiting line left p part =
-    subst (λ (xs : List ℕ). AddsPart (change old new) xs) p.joined (part_after old.bytes mid.bytes new.bytes p.sent left p.adds part)
+    rw (← p.joined) (part_after old.bytes mid.bytes new.bytes p.sent left p.adds part)
 
 -- what puts of a text have passed on, where nothing of it is left
 pub rows_passed : (mid new : Flow) (waiting waiting' lines : List ℕ) → SoFar (change mid new) waiting' [] (waiting ++ lines) → Passes waiting lines waiting' (change mid new)

@@ -1,5 +1,5 @@
 -- The rows of answers fit the page of their document.
-use Rattle.std.proofs.Common.{◌≡◌, ℕ, ◌≤◌, List, [], ◌∷◌, length, map, Option, Some, None, true, refl, sym, subst, arith}
+use Rattle.std.proofs.Common.{◌≡◌, ℕ, ◌≤◌, List, [], ◌∷◌, length, map, Option, Some, None, true, refl, arith}
 use Rattle.std.specs.List.{list_all}
 use Rattle.std.proofs.lemmas.List.{length-map}
 use Rattle.span_core.specs.declared.span.Span.{Span}
@@ -28,7 +28,7 @@ pub answers_fit : (q : QueryTree) (d : List ℕ) (names : List VarName) (rows : 
 answers_fit q d names rows a row h =
     let g = a.each_answers row h in
     let fits : FitsPage (length names) (length d) (row_of names g.0) = record { lengths = length-map names g.0; inside = row_inside (length d) names g.0 (query_ends q d g.0 g.1) } in
-    subst (λ (r : SpanRow). FitsPage (length names) (length d) r) (sym g.2) fits
+    rw g.2 fits
 
 pub fits_of : (width n : ℕ) (row : SpanRow) → FitsRow width n row → FitsPage width n row
 fits_of width n row f = record { lengths = f.lengths; inside = all_inside n row f.inside }

@@ -2,7 +2,7 @@
 use Rattle.std.specs.Prelude.{◌↔◌, Bool, true, false, IsTrue, codes, nat_lt}
 use Rattle.std.proofs.lemmas.Bool.{le-leb, leb-true, true≢false}
 use Rattle.std.specs.Bool.{OnTrue, OnFalse}
-use Rattle.std.proofs.Common.{◌≡◌, ℕ, zero, suc, ◌+◌, ◌-◌, ◌*◌, ◌<◌, ◌≤◌, List, [], ◌∷◌, ◌++◌, length, Option, Some, None, if◌then◌else◌, refl, sym, ap, ◌∙◌, subst, arith, append-nil, append_assoc, length-append}
+use Rattle.std.proofs.Common.{◌≡◌, ℕ, zero, suc, ◌+◌, ◌-◌, ◌*◌, ◌<◌, ◌≤◌, List, [], ◌∷◌, ◌++◌, length, Option, Some, None, if◌then◌else◌, refl, sym, ap, ◌∙◌, arith, append-nil, append_assoc, length-append}
 use Rattle.std.specs.List.{flat_map}
 use Rattle.std.proofs.lemmas.List.Concat.{flat_map-cons}
 use Rattle.spanner_model.specs.Captures.{VarName}
@@ -48,17 +48,17 @@ module _ (out : Change) (end : Status) (note : List ℕ) (old mid new : ℕ) (te
 
 module _ (judges : ℕ → List ℕ → Bool) (s t : Source) (same : t ≡ s) (old new : List SpanRow) (row : SpanRow) where
   pub goes_on : passing_over judges t old ≡ row ∷ passing_over judges t new → passing_over judges s old ≡ row ∷ passing_over judges s new
-  goes_on h = subst (λ (u : Source). passing_over judges u old ≡ row ∷ passing_over judges u new) same h
+  goes_on h = rw (← same) h
 
   pub goes_out : passing_over judges t old ≡ [] → passing_over judges s old ≡ []
-  goes_out h = subst (λ (u : Source). passing_over judges u old ≡ []) same h
+  goes_out h = rw (← same) h
 
   pub fits_page : FitsRow (length t.names) (length t.document) row → FitsPage (length s.names) (length s.document) row
-  fits_page h = subst (λ (u : Source). FitsPage (length u.names) (length u.document) row) same (fits_of (length t.names) (length t.document) row h)
+  fits_page h = rw (← same) (fits_of (length t.names) (length t.document) row h)
 
   pub tries : (now next : ℕ) (found : Bool) → next ≤ now + trying_steps (length t.names) (length t.asked) (length old - length new) found →
       next ≤ now + ((length old - length new) * (next_steps (length s.names) + length s.asked) + (if found then 0 else next_steps (length s.names)))
-  tries now next found h = subst (λ (u : Source). next ≤ now + trying_steps (length u.names) (length u.asked) (length old - length new) found) same h
+  tries now next found h = rw (← same) h
 
 -- one list ends in a second, and that in a third
 pub ends_on : (xs ys zs : List SpanRow) → EndsIn xs ys → EndsIn ys zs → EndsIn xs zs
@@ -119,15 +119,15 @@ module _ (judges : ℕ → List ℕ → Bool) (s t : Source) (same : t ≡ s) (a
   pub took_found : (found : Bool) → found ≡ true → next ≤ mid + trying_steps (length t.names) (length t.asked) (length old - length new) found →
       next ≤ start + (length all - length new) * (next_steps (length s.names) + length s.asked)
   took_found found is took =
-      let here = subst (λ (b : Bool). next ≤ mid + trying_steps (length t.names) (length t.asked) (length old - length new) b) is took in
+      let here = rw is at took in
       steps_found (length all) (length old) (length new) (next_steps (length s.names) + length s.asked) start mid next (ends_long old new then_) (ends_long all old ends) first
       (tries judges s t same old new [] mid next true here)
 
   pub took_none : (found : Bool) → found ≡ false → new ≡ [] → next ≤ mid + trying_steps (length t.names) (length t.asked) (length old - length new) found →
       next ≤ start + length all * (next_steps (length s.names) + length s.asked) + next_steps (length s.names)
   took_none found is none took =
-      let here = subst (λ (b : Bool). next ≤ mid + trying_steps (length t.names) (length t.asked) (length old - length new) b) is took in
-      let gone = subst (λ (rows : List SpanRow). next ≤ mid + trying_steps (length t.names) (length t.asked) (length old - length rows) false) none here in
+      let here = rw is at took in
+      let gone = rw none at here in
       steps_ended (length all) (length old) (next_steps (length s.names)) (next_steps (length s.names) + length s.asked) start mid next (ends_long all old ends) first
       (tries judges s t same old [] [] mid next false gone)
 
@@ -172,7 +172,7 @@ pub ends_after : (judges : ℕ → List ℕ → Bool) (s t : Source) (same : t �
     length (passing_over judges s old) + length page ≡ length coming → last ≡ last_row → last_row ≡ page_end page None → EndsPage page coming last more
 ends_after judges s t same old new page coming row last last_row more P some none count is ends =
     let m = some_more more (passing_over judges t old) (passing_over judges t new) row P some none in
-    let n = subst (λ (u : Source). IsTrue more ↔ (0 < length (passing_over judges u old))) same m in
+    let n = rw same at m in
     record {
       more = (λ b. let left = n.0 b in omega (arith, count, left), λ h. n.1 (omega (arith, count, h)));
       last = on_true more (last ≡ page_end page None) (is ∙ ends);

@@ -1,5 +1,5 @@
 -- Pages of the answers that pass join.
-use Rattle.std.proofs.Common.{◌≡◌, ℕ, ◌+◌, ◌-◌, ◌<◌, Bool, true, false, IsTrue, List, [], ◌∷◌, ◌++◌, length, take, drop, filter, Option, Some, None, sym, ap, ◌∙◌, subst, arith, length-drop}
+use Rattle.std.proofs.Common.{◌≡◌, ℕ, ◌+◌, ◌-◌, ◌<◌, Bool, true, false, IsTrue, List, [], ◌∷◌, ◌++◌, length, take, drop, filter, Option, Some, None, ap, ◌∙◌, arith, length-drop}
 use Rattle.std.specs.Prelude.{◌↔◌, if◌then◌else◌}
 use Rattle.std.specs.List.{AllByRecursion}
 use Rattle.span_core.specs.Order.{StandsBefore}
@@ -46,14 +46,14 @@ pub page_of : (checks : List Check) (q : QueryTree) (d : List ℕ) (names : List
     Leaves after limit page more (passing checks names d rows) rest
 page_of checks q d names after limit page more rows rest are is p =
     let same = answers_one q d names p.0 rows p.2 are in
-    let there : IsRest after (passing checks names d rows) p.1 = subst (λ (rs : List SpanRow). IsRest after (passing checks names d rs) p.1) same p.3 in
+    let there : IsRest after (passing checks names d rows) p.1 = rw (← same) p.3 in
     let one : p.1 ≡ rest = rest_one after (passing checks names d rows) p.1 rest there is in
     let first : page ≡ take limit rest = p.4 ∙ ap (take limit) one in
     record {
       first = first;
-      left = subst (λ (xs : List SpanRow). IsRest (page_end xs after) (passing checks names d rows) (drop limit rest)) (sym first)
+      left = rw first
           (page_leaves limit after (passing checks names d rows) rest (passing_in_order checks names d rows are.in_order) is);
-      counted = subst (λ (rs : List SpanRow). IsTrue more ↔ (limit < length rs)) one p.5;
+      counted = rw (← one) p.5;
     }
 
 -- ---- two pages

@@ -1,5 +1,5 @@
 -- Pages of the answers that pass.
-use Rattle.std.proofs.Common.{◌≡◌, ℕ, suc, ◌<◌, ◌↔◌, Bool, true, false, IsTrue, List, [], ◌∷◌, length, filter, Option, Some, None, refl, sym, ap, ◌∙◌, subst, arith, length-take}
+use Rattle.std.proofs.Common.{◌≡◌, ℕ, suc, ◌<◌, ◌↔◌, Bool, true, false, IsTrue, List, [], ◌∷◌, length, Option, Some, None, refl, sym, ap, ◌∙◌, arith, length-take}
 use Rattle.std.proofs.lemmas.List.{take_all}
 use Rattle.spanner_model.specs.Captures.{VarName}
 use Rattle.spanner_model.specs.Expression.{QueryTree}
@@ -62,7 +62,7 @@ passing_page checks q d names after limit rest more (rows, answers, is) m =
 
 pub all_passing : (checks : List Check) (q : QueryTree) (d : List ℕ) (names : List VarName) (rest : List SpanRow) → AreLeft q d names None rest →
     AreAllPassing checks q d names (passing checks names d rest)
-all_passing [] q d names rest (rows, answers, is) = subst (λ (rs : List SpanRow). AreAnswers q d names rs) (sym is) answers
+all_passing [] q d names rest (rows, answers, is) = rw is answers
 all_passing (c ∷ checks) q d names rest (rows, answers, is) = (rows, answers, ap (passing (c ∷ checks) names d) is)
 
 -- ---- what it costs, counted from an earlier moment on
@@ -88,6 +88,6 @@ module _ (filter : Bool) (q : QueryTree) (d : List ℕ) (names : List VarName) (
   trial_keeps [] rest left few took = λ K reads. let first = few K reads in omega (arith, first, took)
   trial_keeps (c ∷ checks) rest (rows, answers, is) few took = (
     rest,
-    subst (λ (rs : List SpanRow). AreAnswers q d names rs) (sym is) answers,
+    rw is answers,
     λ K reads. let first = few K reads in omega (arith, first, took),
   )

@@ -74,7 +74,7 @@ module _ (k : Known) (text : List ℕ) (tested : Tested) (found : IsTestedText t
     one_fault _ (of_text has none) = absurd (none (tested_of tested) found)
     one_fault _ (unknown_test {t = t} {at = there} spelled alone h) =
         let same : t ≡ tested_of tested = one_query t spelled in
-        same_unknown there at (first_one k tested.asked there at (subst (λ (u : TestedTree). FirstUnknown k u.asked there) same h) first)
+        same_unknown there at (first_one k tested.asked there at (rw same at h) first)
 
     pub unknown_fault : IsOnlyFault k text (UnknownTest at)
     unknown_fault = record {

@@ -1,5 +1,5 @@
 -- The rows after a row, and the first of them.
-use Rattle.std.proofs.Common.{◌≡◌, ℕ, List, length, Option, Some, None, sym, subst}
+use Rattle.std.proofs.Common.{◌≡◌, ℕ, List, length, Option, Some, None}
 use Rattle.span_core.specs.Lists.{Has}
 use Rattle.span_core.specs.declared.kept.Kept.{Kept}
 use Rattle.spanner_engine.specs.Begun.{row_kept}
@@ -12,8 +12,8 @@ use Rattle.rematch_program.specs.Pages.{HasWidth, IsAfter}
 -- ---- the page
 
 pub Has-rest : (after : Option SpanRow) (rows rest : List SpanRow) (r : SpanRow) → IsRest after rows rest → Has rest r → Has rows r
-Has-rest None rows rest r is h = subst (λ (rs : List SpanRow). Has rs r) is h
-Has-rest (Some after) rows rest r is h = subst (λ (rs : List SpanRow). Has rs r) (sym is.1) (Has-append_right is.0 rest r h)
+Has-rest None rows rest r is h = rw (← is) h
+Has-rest (Some after) rows rest r is h = rw is.1 (Has-append_right is.0 rest r h)
 
 width_of : (names : List VarName) (row : SpanRow) (kept : Option ℕ) (text : List ℕ) → IsCursorText names row kept text → length row ≡ length names
 width_of names row None text h = h.row_is.lengths

@@ -1,5 +1,5 @@
 -- The variables of a sound query's result are names.
-use Rattle.std.proofs.Common.{◌≡◌, inl, inr, ℕ, suc, List, [], ◌∷◌, length, Some, slice_get, refl, subst, IsTrue}
+use Rattle.std.proofs.Common.{◌≡◌, inl, inr, ℕ, suc, List, [], ◌∷◌, length, Some, slice_get, refl, IsTrue}
 use Rattle.span_core.specs.Names.{is_name}
 use Rattle.spanner_model.specs.Captures.{VarName}
 use Rattle.spanner_model.specs.Tree.{Tree, empty, one, cat_end, cat, alt_end, alt, rep, cap}
@@ -21,7 +21,7 @@ mutual
   built_named (alt f rest) x h (inl v) = built_named f x h.0 v
   built_named (alt f rest) x h (inr v) = arms_named rest x h.1 v
   built_named (rep f least most) x h v = built_named f x h.0 v
-  built_named (cap y f) x h (inl e) = subst (λ (z : VarName). IsTrue (is_name z)) e h.1.0
+  built_named (cap y f) x h (inl e) = rw (← e) h.1.0
   built_named (cap y f) x h (inr v) = built_named f x h.0 v
 
   parts_named : (f : Tree) (x : VarName) → AreParts f → HasVar f x → IsTrue (is_name x)

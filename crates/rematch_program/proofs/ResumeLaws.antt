@@ -1,5 +1,5 @@
 -- A page's own cursor stands for its end.
-use Rattle.std.proofs.Common.{◌≡◌, ℕ, suc, ◌+◌, ◌-◌, ◌<◌, ◌≤◌, List, [], ◌∷◌, ◌++◌, Bool, length, take, drop, get_or, Option, Some, None, IsTrue, inl, inr, refl, sym, ap, ◌∙◌, subst, arith, length-drop}
+use Rattle.std.proofs.Common.{◌≡◌, ℕ, suc, ◌-◌, ◌<◌, ◌≤◌, List, [], ◌∷◌, ◌++◌, Bool, length, take, drop, get_or, Option, Some, None, IsTrue, inl, inr, refl, sym, ap, ◌∙◌, subst, arith, length-drop}
 use Rattle.std.specs.Prelude.{◌↔◌}
 use Rattle.std.specs.List.{All}
 use Rattle.std.proofs.lemmas.List.{take_all}
@@ -19,7 +19,6 @@ use Rattle.spanner_model.specs.Passing.{Check, IsPassingPage, passing}
 use Rattle.spanner_engine.proofs.PassingLaws.{has_passing}
 use Rattle.rematch_program.specs.declared.TheConstants.{DOCUMENT_LIMIT}
 use Rattle.rematch_program.specs.Pages.{AllFit, CursorFits, IsAfter}
-use Rattle.rematch_program.specs.Testing.{IsPassingPageOf}
 use Rattle.rematch_program.specs.Resume.{AreResumed, GiveInTurn, Paged, PagesGiveEachOnce, PagesResume, limits_of, note_cursor, rows_of}
 use Rattle.rematch_program.proofs.ResultNames.{result_named}
 use Rattle.rematch_program.proofs.Completeness.{after_one}
@@ -32,7 +31,7 @@ use Rattle.rematch_program.proofs.RestLaws.{Has-rest}
 page_fits : (checks : List Check) (q : QueryTree) (d : List ℕ) (names : List VarName) (after : Option SpanRow) (a : ℕ) (page : List SpanRow) (more : Bool) →
     IsPassingPage checks q d names after a page more → AllFit (length names) (length d) page
 page_fits checks q d names after a page more p row has =
-    let among = Has-rest after (passing checks names d p.0) p.1 row p.3 (Has-take p.1 a row (subst (λ (rs : List SpanRow). Has rs row) p.4 has)) in
+    let among = Has-rest after (passing checks names d p.0) p.1 row p.3 (Has-take p.1 a row (rw (← p.4) has)) in
     answers_fit q d names p.0 p.2 row (has_passing checks names d p.0 row among)
 
 -- ---- the text of a cursor, read as that of `-a`
@@ -95,7 +94,7 @@ pages_resume checks q d names given after a page more sound few are begins fits 
       place = place;
       joins = λ b next more' n.
           passing_pages_meet checks q d names (row_kept after) a b page next more more' p
-          (subst (λ (o : Option SpanRow). IsPassingPageOf checks q d names o b next more') place n);
+          (rw (← place) n);
     }
 
 -- ---- any number of pages
@@ -117,14 +116,14 @@ module _ (checks : List Check) (q : QueryTree) (d : List ℕ) (names : List VarN
       IsAfter names given other → IsPassingPage checks q d names (row_kept other) p.limit p.rows p.more → Gave given p rest
   gave given after other p rest begins is begun page' =
       let same : other ≡ after = after_one names given after other begins begun in
-      let page = subst (λ (o : Option Kept). IsPassingPage checks q d names (row_kept o) p.limit p.rows p.more) same page' in
+      let page = rw same at page' in
       let leaves = page_of checks q d names (row_kept after) p.limit p.rows p.more all rest answers is page in
       let named = λ (x : VarName) (h : Has names x). result_named q x sound ((are.1 x).0 h) in
       record {
         end = kept_at names (length d) few named after p.rows;
         begins = resumes names (length d) few named given after p.rows begins (page_fits checks q d names (row_kept after) p.limit p.rows p.more page);
         first = leaves.first;
-        left = subst (λ (o : Option SpanRow). IsRest o those (drop p.limit rest)) (sym (same_place names (length d) few named after p.rows)) leaves.left;
+        left = rw (same_place names (length d) few named after p.rows) leaves.left;
         counted = leaves.counted;
       }
 
@@ -168,7 +167,7 @@ pages_give_each_once checks q d names pages rows sound few are (all, answers, is
       in_order = passing_in_order checks names d all answers.in_order;
       first = first;
       more = λ front last split.
-          let resumed = subst (λ (ps : List Paged). AreResumed checks q d names None ps) split h in
+          let resumed = rw split at h in
           let m = give_more checks q d names sound few are all answers front last None None those tt refl resumed in
           let same : limits_of pages ≡ limits_of (front ++ last ∷ []) = ap limits_of split in
           (λ t. omega (arith, m.0 t, same), λ l. m.1 (omega (arith, l, same)));

@@ -1,5 +1,5 @@
 -- What taking rows costs, by the answers that were tried.
-use Rattle.std.proofs.Common.{◌≡◌, ℕ, ◌+◌, ◌-◌, ◌*◌, ◌≤◌, Bool, true, false, List, [], ◌∷◌, ◌++◌, length, take, if◌then◌else◌, refl, sym, ap, ◌∙◌, subst, arith, length-append}
+use Rattle.std.proofs.Common.{◌≡◌, ℕ, ◌+◌, ◌-◌, ◌*◌, ◌≤◌, Bool, true, false, List, [], ◌∷◌, ◌++◌, length, take, if◌then◌else◌, refl, ap, ◌∙◌, arith, length-append}
 use Rattle.spanner_model.specs.Captures.{VarName}
 use Rattle.spanner_model.specs.Answers.{SpanRow}
 use Rattle.spanner_model.specs.Passing.{Check, passing}
@@ -22,7 +22,7 @@ more_times : (a k N : ℕ) → a * N ≤ (a + k) * N
 more_times a k N = omega arith
 
 times_le : (a b N : ℕ) → a ≤ b → a * N ≤ b * N
-times_le a b N le = let e : a + (b - a) ≡ b = omega (arith, le) in subst (λ (m : ℕ). a * N ≤ m * N) e (more_times a (b - a) N)
+times_le a b N le = let e : a + (b - a) ≡ b = omega (arith, le) in rw (← e) (more_times a (b - a) N)
 
 -- where nothing is asked
 plain_steps : (T P N old new : ℕ) (ended : Bool) → T + (if ended then 1 else 0) ≤ P + 1 → new ≤ old + T * (N + 0) + (if ended then N else 0) → new ≤ old + (P + 1) * N
@@ -49,7 +49,7 @@ asked_steps T N t old new false steps =
 
 -- with the tests that are asked counted as the checks
 counted_steps : (T N t u old new : ℕ) (ended : Bool) → t ≡ u → new ≤ old + T * (N + t) + (if ended then N else 0) → new ≤ old + T * (N + u) + (if ended then N else 0)
-counted_steps T N t u old new ended same steps = subst (λ (m : ℕ). new ≤ old + T * (N + m) + (if ended then N else 0)) same steps
+counted_steps T N t u old new ended same steps = rw (← same) steps
 
 pub take_front : (front left rows : List SpanRow) → rows ≡ front ++ left → take (length front) rows ≡ front
 take_front front left rows is = ap (take (length front)) is ∙ of front
@@ -68,7 +68,7 @@ page_takes (c ∷ checks) names d rest page tests old new h =
     let few : length (passing (c ∷ checks) names d h.tried) ≤ length page + 1 = omega (arith, h.few) in (
       length h.tried,
       omega (arith, long),
-      subst (λ (rows : List SpanRow). length (passing (c ∷ checks) names d rows) ≤ length page + 1) (sym (take_front h.tried h.left rest h.joined)) few,
+      rw (take_front h.tried h.left rest h.joined) few,
       asked_steps (length h.tried) (next_steps (length names)) (length (c ∷ checks)) old new h.ended
           (counted_steps (length h.tried) (next_steps (length names)) tests (length (c ∷ checks)) old new h.ended h.each h.steps),
     )

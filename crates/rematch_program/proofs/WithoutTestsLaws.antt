@@ -1,5 +1,5 @@
 -- A query without tests runs as before there were any.
-use Rattle.std.proofs.Common.{◌≡◌, ◌↔◌, ℕ, List, [], Bool, Option, Some, None, refl, sym, subst}
+use Rattle.std.proofs.Common.{◌≡◌, ◌↔◌, ℕ, List, [], Bool, Option, Some, None, refl}
 use Rattle.rm_outside.specs.declared.status.Status.{Status}
 use Rattle.command_line.specs.RequestView.{RequestView}
 use Rattle.spanner_model.specs.Captures.{VarName}
@@ -7,10 +7,9 @@ use Rattle.spanner_model.specs.Expression.{QueryTree}
 use Rattle.spanner_model.specs.Answers.{SpanRow}
 use Rattle.query_parser.specs.declared.fault.QueryFault.{QueryFault}
 use Rattle.query_parser.specs.Tested.{IsTestedText}
-use Rattle.spanner_model.specs.Tested.{TestedTree}
 use Rattle.query_parser.specs.TestedLaws.{plain}
 use Rattle.spanner_model.specs.Passing.{Known, checks_of}
-use Rattle.query_parser.specs.Binding.{FirstUnknown, HasFaultUnder, of_text, unknown_test, IsOnlyTested}
+use Rattle.query_parser.specs.Binding.{HasFaultUnder, of_text, unknown_test, IsOnlyTested}
 use Rattle.rematch_program.specs.Work.{Work}
 use Rattle.rematch_program.specs.Pages.{IsPageOf}
 use Rattle.rematch_program.specs.Testing.{IsPassingPageOf}
@@ -21,7 +20,7 @@ no_fault : (k : Known) (text : Text) (q : QueryTree) (fault : QueryFault) → Is
 no_fault k text q _ spelled (of_text has none) = none (plain q) spelled
 no_fault k text q _ spelled (unknown_test {t = t} {at = at} read only first) =
     let same : plain q ≡ t = only (plain q) spelled in
-    subst (λ (u : TestedTree). FirstUnknown k u.asked at) (sym same) first
+    rw (← same) at first
 
 runs_alike : (k l : Known) (a : RequestView) (text : Text) (q : QueryTree) (s : Shelved) (w : Work) (end : Status) (note : Text) → IsTestedText text (plain q) →
     FromText s w end note k a text → FromText s w end note l a text
@@ -29,10 +28,10 @@ runs_alike k l a text q s w end note spelled (query_refused fault only is did) =
 runs_alike k l a text q s w end note spelled (out_of_memory is did) = out_of_memory is did
 runs_alike k l a text q s w end note spelled (understood t only case) =
     let same : plain q ≡ t = only.only (plain q) spelled in
-    let here : FromQuery s w end note a (plain q) (checks_of k (plain q).asked) = subst (λ (u : TestedTree). FromQuery s w end note a u (checks_of k u.asked)) (sym same) case in
+    let here : FromQuery s w end note a (plain q) (checks_of k (plain q).asked) = rw (← same) at case in
     let alone : IsOnlyTested l text (plain q) = record {
       spelled = spelled;
-      only = subst (λ (u : TestedTree). (other : TestedTree) → IsTestedText text other → other ≡ u) (sym same) only.only;
+      only = rw (← same) at only.only;
       tests_known = λ x h. absurd h;
     } in
     understood (plain q) alone here

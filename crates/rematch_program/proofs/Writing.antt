@@ -48,8 +48,8 @@ begun_text p a s names document rows is columns bytes =
 module _ (s : Source) (vars : List VarName) (n : ℕ) (columns : vars ≡ s.names) (bytes : n ≡ length s.document) (last : Option SpanRow) where
   pub note_fits : (p : Page) → IsOver p s → FitsIf (length p.names) (length p.document) last → FitsIf (length vars) n last
   note_fits p over fits =
-      let wide : FitsIf (length vars) (length p.document) last = subst (λ (names : List VarName). FitsIf (length names) (length p.document) last) (over.names ∙ sym columns) fits in
-      subst (λ (k : ℕ). FitsIf (length vars) k last) (ap length over.document ∙ sym bytes) wide
+      let wide : FitsIf (length vars) (length p.document) last = rw (← over.names ∙ sym columns) fits in
+      rw (← ap length over.document ∙ sym bytes) wide
 
   pub note_told : (given : Option (List ℕ)) (rows coming : List SpanRow) (more : Bool) → EndsPage rows coming last more →
       last_note vars n (cursor_given vars n last given) [] more ≡ last_note s.names (length s.document) given rows (nat_lt (length rows) (length coming))
@@ -64,9 +64,9 @@ module _ (s : Source) (vars : List VarName) (n : ℕ) (columns : vars ≡ s.name
 module _ (first before : Page) (same : before ≡ with_waiting before.waiting first) (row spans : SpanRow) (shown : spans ≡ row) where
   pub fits_now : (s : Source) → IsOver first s → FitsPage (length s.names) (length s.document) row → Fits before spans
   fits_now s over fits =
-      let columns : FitsPage (length first.names) (length s.document) row = subst (λ (names : List VarName). FitsPage (length names) (length s.document) row) (sym over.names) fits in
-      let here : Fits first row = subst (λ (d : List ℕ). FitsPage (length first.names) (length d) row) (sym over.document) columns in
-      subst (λ (p : Page). Fits p spans) (sym same) (subst (Fits first) (sym shown) here)
+      let columns : FitsPage (length first.names) (length s.document) row = rw over.names fits in
+      let here : Fits first row = rw over.document columns in
+      rw same (subst (Fits first) (sym shown) here)
 
   line_now : line_of before spans ≡ line_of first row
   line_now = ap (λ (p : Page). line_of p spans) same ∙ ap (line_of first) shown
@@ -75,12 +75,12 @@ module _ (first before : Page) (same : before ≡ with_waiting before.waiting fi
     pub line_passed : (waiting : List ℕ) → Passes before.waiting (line_of before spans) waiting (change mid new) → SoFar (change old new) waiting (lines_of first rest) whole
     line_passed waiting passes =
         so_far_more old mid new before.waiting waiting (line_of first row) (lines_of first rows) (lines_of first rest) whole so_far (lines_next (line_of first) rows rest row front)
-        (subst (λ (line : List ℕ). Passes before.waiting line waiting (change mid new)) line_now passes)
+        (rw (← line_now) passes)
 
     pub line_cut : AddsPart (change mid new) (before.waiting ++ line_of before spans) → AddsPart (change old new) whole
     line_cut part =
         so_far_part old mid new before.waiting (line_of first row) (lines_of first rows) (lines_of first rest) whole so_far (lines_next (line_of first) rows rest row front)
-        (subst (λ (line : List ℕ). AddsPart (change mid new) (before.waiting ++ line)) line_now part)
+        (rw (← line_now) part)
 
 -- a page of which other bytes wait, twice
 pub still_same : (first before after : Page) → before ≡ with_waiting before.waiting first → after ≡ with_waiting after.waiting before → after ≡ with_waiting after.waiting first

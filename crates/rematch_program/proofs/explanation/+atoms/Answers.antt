@@ -1,12 +1,12 @@
-use Rattle.std.proofs.Common.{◌≡◌, ◌∙◌, arith, inl, refl, sym, ap, subst, IfOk, List}
+use Rattle.std.proofs.Common.{◌≡◌, ◌∙◌, arith, inl, refl, sym, ap, subst}
 use Rattle.span_core.proofs.HasLaws.{Has-slice_get}
-use Rattle.spanner_model.specs.Expression.{AtomTree, ExprTree, minus}
+use Rattle.spanner_model.specs.Expression.{minus}
 use Rattle.spanner_model.specs.View.{atom_of}
 use Rattle.spanner_model.specs.ExprView.{expr_of, exprs_of}
 use Rattle.spanner_model.proofs.Nodes.{expr_nodes}
 use Rattle.spanner_model.proofs.ExprLaws.{union_size, part_size}
 use Rattle.spanner_model.proofs.ExprTrees.{expr_of-Atom, expr_of-Union, expr_of-Join, expr_of-Minus}
-use Rattle.rematch_program.specs.Explained.{AreCounted, HasLines, atoms_of}
+use Rattle.rematch_program.specs.Explained.{AreCounted, atoms_of}
 use Rattle.rematch_program.proofs.CountedAtoms.{left_counted, part_counted, right_counted}
 use Rattle.rematch_program.proofs.AtomLines.{of_union, of_join, part_lines, then_lines}
 use Rattle.rematch_program.proofs.explanation.+atoms.Goals as goal
@@ -31,13 +31,12 @@ push_atoms-push_parts-requires-in-Join t c =
 pub push_atoms-returns-in-Union : goal.push_atoms-returns-in-Union
 push_atoms-returns-in-Union t c =
     let same = ap atoms_of (ap expr_of c.in-Union.is ∙ expr_of-Union c.in-Union.parts) ∙ of_union (exprs_of c.in-Union.parts) in
-    subst (λ (xs : List AtomTree). IfOk c.push_parts.result (λ all. HasLines c.args.before c.args.text.now.items xs all c.push_parts.new.text.items)) (sym same) c.push_parts.ensures
+    rw same c.push_parts.ensures
 
 pub push_atoms-returns-in-Join : goal.push_atoms-returns-in-Join
 push_atoms-returns-in-Join t c =
     let same = ap atoms_of (ap expr_of c.in-Join.is ∙ expr_of-Join c.in-Join.parts) ∙ of_join (exprs_of c.in-Join.parts) in
-    subst (λ (xs : List AtomTree). IfOk c.push_parts-in-Join.result
-    (λ all. HasLines c.args.before c.args.text.now.items xs all c.push_parts-in-Join.new.text.items)) (sym same) c.push_parts-in-Join.ensures
+    rw same c.push_parts-in-Join.ensures
 
 pub push_parts-push_atoms-requires : goal.push_parts-push_atoms-requires
 push_parts-push_atoms-requires t c =
@@ -60,7 +59,7 @@ push_atoms-push_atoms-requires-in-Minus t c =
     let is : expr_of c.args.expr.now ≡ minus f h =
     ap expr_of c.in-Minus.is ∙ (expr_of-Minus c.in-Minus.left c.in-Minus.right ∙ ap (λ x. minus (expr_of x) h) (sym c.deref-in-Minus.ensures)) in
     let size = ap expr_nodes is in
-    (omega (arith, size), left_counted f h (subst (λ (e : ExprTree). AreCounted (atoms_of e)) is c.requires))
+    (omega (arith, size), left_counted f h (rw is at c.requires))
 
 pub push_atoms-push_atoms-requires-in-Minus-2 : goal.push_atoms-push_atoms-requires-in-Minus-2
 push_atoms-push_atoms-requires-in-Minus-2 t c =
@@ -69,7 +68,7 @@ push_atoms-push_atoms-requires-in-Minus-2 t c =
     let is : expr_of c.args.expr.now ≡ minus f h =
     ap expr_of c.in-Minus.is ∙ (expr_of-Minus c.in-Minus.left c.in-Minus.right ∙ ap (λ x. minus f (expr_of x)) (sym c.deref-in-Minus-2.ensures)) in
     let size = ap expr_nodes is in
-    (omega (arith, size), right_counted f h (subst (λ (e : ExprTree). AreCounted (atoms_of e)) is c.requires))
+    (omega (arith, size), right_counted f h (rw is at c.requires))
 
 pub push_atoms-returns-in_ok-atoms-in-Minus : goal.push_atoms-returns-in_ok-atoms-in-Minus
 push_atoms-returns-in_ok-atoms-in-Minus t c =
@@ -79,6 +78,6 @@ push_atoms-returns-in_ok-atoms-in-Minus t c =
     ap expr_of c.in-Minus.is ∙ (expr_of-Minus c.in-Minus.left c.in-Minus.right ∙ (λ i. minus (expr_of (sym c.deref-in-Minus.ensures i)) (expr_of (sym c.deref-in-Minus-2.ensures i)))) in
     let r = c.push_atoms-in-Minus-2.result in
     let new = c.push_atoms-in-Minus-2.new.text.items in
-    subst (λ (e : ExprTree). IfOk r (λ all. HasLines c.args.before c.args.text.now.items (atoms_of e) all new)) (sym is)
+    rw is
     (then_lines r c.args.before c.args.text.now.items (atoms_of f) c.in_ok-atoms-in-Minus.atoms c.push_atoms-in-Minus.new.text.items (atoms_of h) new
     c.in_ok-atoms-in-Minus.ensures c.push_atoms-in-Minus-2.ensures)

@@ -1,6 +1,5 @@
-use Rattle.std.proofs.Common.{List, ℕ, ap, ◌∙◌, length, subst}
+use Rattle.std.proofs.Common.{ap, ◌∙◌, length}
 use Rattle.command_line.specs.RequestView.{request_view}
-use Rattle.rm_outside.specs.Change.{change, Adds, AddsPart}
 use Rattle.spanner_engine.specs.Left.{Source}
 use Rattle.spanner_engine.specs.Borrowed.{left_in}
 use Rattle.note_texts.proofs.ResultLaws.{on_err}
@@ -34,14 +33,14 @@ pub returns-in-Err-clause-part : goal.returns-in-Err-clause-part
 returns-in-Err-clause-part g c =
     let a = request_view c.args.request.now in
     let text = begun_text c.in_ok-page.page a (left_in c.args.rows.now).source _ _ (page_rows g.J.Judge.judges (left_in c.args.rows.now) a.limit) c.in_ok-page.ensures c.vars.ensures c.document.ensures.document in
-    subst (λ (xs : List ℕ). AddsPart (change (g.O.Sink.told c.args.out.now) (g.O.Sink.told c.put_rows.new.out)) xs) text c.in-Err.ensures.part
+    rw (← text) c.in-Err.ensures.part
 
 pub returns-in_err-note-clause-part : goal.returns-in_err-note-clause-part
 returns-in_err-note-clause-part g c =
     let a = request_view c.args.request.now in
     let text = begun_text c.in_ok-page.page a (left_in c.args.rows.now).source _ _ (page_rows g.J.Judge.judges (left_in c.args.rows.now) a.limit) c.in_ok-page.ensures c.vars.ensures c.document.ensures.document in
     on_err c.from_residual-in_err-note.result _
-    (subst (λ (xs : List ℕ). AddsPart (change (g.O.Sink.told c.args.out.now) (g.O.Sink.told c.put_rows.new.out)) xs) text
+    (rw (← text)
     (passes_part (g.O.Sink.told c.args.out.now) (g.O.Sink.told c.put_rows.new.out) (g.O.Sink.told c.put_rows.new.out) _ _ _ c.in-Ok.ensures.ok
     (part_nothing (g.O.Sink.told c.put_rows.new.out).bytes _)))
 
@@ -49,12 +48,12 @@ pub returns-clause-part : goal.returns-clause-part
 returns-clause-part g c =
     let a = request_view c.args.request.now in
     let text = begun_text c.in_ok-page.page a (left_in c.args.rows.now).source _ _ (page_rows g.J.Judge.judges (left_in c.args.rows.now) a.limit) c.in_ok-page.ensures c.vars.ensures c.document.ensures.document in
-    subst (λ (xs : List ℕ). AddsPart (change (g.O.Sink.told c.args.out.now) (g.O.Sink.told c.flush.new.out)) xs) text
+    rw (← text)
     (passes_part (g.O.Sink.told c.args.out.now) (g.O.Sink.told c.put_rows.new.out) (g.O.Sink.told c.flush.new.out) _ _ _ c.in-Ok.ensures.ok c.in-Err-flush.ensures.part)
 
 pub returns-in-Ok-flush-clause-whole : goal.returns-in-Ok-flush-clause-whole
 returns-in-Ok-flush-clause-whole g c =
     let a = request_view c.args.request.now in
     let text = begun_text c.in_ok-page.page a (left_in c.args.rows.now).source _ _ (page_rows g.J.Judge.judges (left_in c.args.rows.now) a.limit) c.in_ok-page.ensures c.vars.ensures c.document.ensures.document in
-    subst (λ (xs : List ℕ). Adds (change (g.O.Sink.told c.args.out.now) (g.O.Sink.told c.flush.new.out)) xs) text
+    rw (← text)
     (passes_whole (g.O.Sink.told c.args.out.now) (g.O.Sink.told c.put_rows.new.out) (g.O.Sink.told c.flush.new.out) _ _ _ c.in-Ok.ensures.ok c.in-Ok-flush.ensures.ok)

@@ -1,12 +1,10 @@
 use Rattle.std.proofs.Common.{arith, rules, ℕ, ◌+◌, List, Option, None, refl, sym, ap, ◌∙◌, ◌++◌, [], length, subst}
 use Rattle.std.proofs.KnownBytes.{Appends-nil}
-use Rattle.rm_outside.specs.Change.{change}
 use Rattle.spanner_model.specs.Answers.{SpanRow, page_end}
 use Rattle.spanner_engine.specs.Left.{passing_over}
 use Rattle.spanner_engine.specs.Borrowed.{left_in}
 use Rattle.rematch_program.specs.Pages.{FitsIf, first_rows, row_if}
 use Rattle.rematch_program.specs.Taking.{coming, page_rows}
-use Rattle.rematch_program.specs.Work.{SoFar}
 use Rattle.rematch_program.specs.Written.{lines_of}
 use Rattle.rematch_program.proofs.Gathers.{rows_passed}
 use Rattle.rematch_program.proofs.PageSteps.{ends_after, ends_none, ends_on, first_of_none, fits_page, further, goes_on, goes_out, last_try, took_found, took_none, tried_all, tried_some}
@@ -44,8 +42,7 @@ returns-then-not-advance-clause-ok g c =
     let gone = ap (first_rows c.loop-remaining.remaining) none ∙ first_of_none c.loop-remaining.remaining in
     let page = c.args.page.now in
     rows_passed (g.O.Sink.told c.args.out.now) (g.O.Sink.told c.loop-remaining.out) page.waiting c.loop-remaining.page.waiting (lines_of page (page_rows judges (left_in c.args.rows.now) c.args.limit))
-    (subst (λ (left : List SpanRow). SoFar (change (g.O.Sink.told c.args.out.now) (g.O.Sink.told c.loop-remaining.out)) c.loop-remaining.page.waiting (lines_of page left)
-    (page.waiting ++ lines_of page (page_rows judges (left_in c.args.rows.now) c.args.limit))) gone c.loop-remaining.invariant.so_far)
+    (rw gone at c.loop-remaining.invariant.so_far)
 
 pub returns-then-not-advance-clause-end : goal.returns-then-not-advance-clause-end
 returns-then-not-advance-clause-end g c =
@@ -147,8 +144,7 @@ returns-clause-ok g c =
     let page = c.args.page.now in
     let none = c.loop-remaining-test.ensures.none (passing_over judges s (left_in c.loop-remaining.rows).rest) in
     rows_passed (g.O.Sink.told c.args.out.now) (g.O.Sink.told c.loop-remaining.out) page.waiting c.loop-remaining.page.waiting (lines_of page (page_rows judges (left_in c.args.rows.now) c.args.limit))
-    (subst (λ (left : List SpanRow). SoFar (change (g.O.Sink.told c.args.out.now) (g.O.Sink.told c.loop-remaining.out)) c.loop-remaining.page.waiting (lines_of page left)
-    (page.waiting ++ lines_of page (page_rows judges (left_in c.args.rows.now) c.args.limit))) none c.loop-remaining.invariant.so_far)
+    (rw none at c.loop-remaining.invariant.so_far)
 
 pub returns-clause-fits : goal.returns-clause-fits
 returns-clause-fits g c =

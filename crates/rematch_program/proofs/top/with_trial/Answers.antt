@@ -1,6 +1,5 @@
-use Rattle.std.proofs.Common.{◌≡◌, None, List, ap, subst}
+use Rattle.std.proofs.Common.{None, ap}
 use Rattle.command_line.specs.RequestView.{request_view}
-use Rattle.spanner_model.specs.Captures.{VarName}
 use Rattle.spanner_model.specs.ExprView.{query_of}
 use Rattle.spanner_model.specs.Passing.{known}
 use Rattle.spanner_engine.specs.Left.{Source, over}
@@ -27,7 +26,7 @@ returns-in-Ok g c =
     let asking = c.args.asking.now in
     let s : Source = over asking.tested.now.asked asking.tests.now asking.compiled.automaton.names c.args.document.now in
     let out = change (g.O.Sink.told c.args.out.now) (g.O.Sink.told c.write_summary.new.out) in
-    let source = subst (λ (ns : List VarName). (left_in c.new-rows.result).source ≡ over asking.tested.now.asked asking.tests.now ns c.args.document.now) c.vars.ensures c.new-rows.ensures.source in
+    let source = rw c.vars.ensures at c.new-rows.ensures.source in
     record {
       case = trial_answered g.J.Judge.judges s c.in-Ok.answers.rest (left_in c.new-rows.result) source (ap (λ a. a.rest) c.new-rows.ensures.answers) (request_view asking.request.now) (query_of asking.compiled.query) out
           c.write_summary.result.status (note_bytes c.write_summary.result.note) c.args.steps.now c.begun.new.steps c.write_summary.new.steps c.args.lines

@@ -1,6 +1,5 @@
-use Rattle.std.proofs.Common.{◌≡◌, ◌≤◌, ◌++◌, ℕ, List, length, take, drop, ap, ◌∙◌, subst, arith}
+use Rattle.std.proofs.Common.{◌≡◌, ◌≤◌, ◌++◌, length, take, drop, ap, ◌∙◌, arith}
 use Rattle.std.proofs.lemmas.List.{take_at}
-use Rattle.rm_outside.specs.Change.{change, AddsPart}
 use Rattle.row_writer.specs.Kept.{kept_text}
 use Rattle.row_writer.proofs.Keeping.{front_kept}
 use Rattle.rematch_program.proofs.Gathers.{part_more}
@@ -19,5 +18,5 @@ returns-in-Err-clause-part g c =
     let whole = take c.self.inside.bytes.len (buffer ++ drop (length buffer) c.self.inside.bytes.items) in
     let long : length buffer ≡ c.self.inside.bytes.len = omega arith in
     let back : whole ≡ buffer = take_at buffer (drop (length buffer) c.self.inside.bytes.items) c.self.inside.bytes.len long in
-    subst (λ (xs : List ℕ). AddsPart (change (g.O.Sink.told c.args.out.now) (g.O.Sink.told c.put_before.new.out)) (xs ++ line)) (ap (take end) back ∙
+    rw (← ap (take end) back ∙
     front) (part_more _ _ (take end whole) line c.in-Err.ensures.part)

@@ -1,7 +1,5 @@
-use Rattle.std.proofs.Common.{ℕ, List, ◌++◌, sym, subst}
-use Rattle.rm_outside.specs.Change.{change, AddsPart}
-use Rattle.rematch_program.specs.Work.{Passes}
-use Rattle.rematch_program.specs.Written.{Fits, Page, line_of, page_of}
+use Rattle.rm_outside.specs.Change.{change}
+use Rattle.rematch_program.specs.Written.{page_of}
 use Rattle.rematch_program.proofs.Writing.{as_wide, row_line}
 use Rattle.rematch_program.proofs.page_writer.PageWriter.put.Goals as goal
 
@@ -9,28 +7,28 @@ pub room-requires-clause-lengths : goal.room-requires-clause-lengths
 room-requires-clause-lengths g c =
     let i = c.self.inside in
     let page = page_of i.form i.texts i.vars.now i.document.now i.gather in
-    as_wide page i.kept c.self.invariant.0 c.args.spans.now (subst (λ (p : Page). Fits p c.args.spans.now) (sym c.self.view_is) c.requires.fits)
+    as_wide page i.kept c.self.invariant.0 c.args.spans.now (rw (← c.self.view_is) at c.requires.fits)
 
 pub add_row-requires-clause-lengths : goal.add_row-requires-clause-lengths
 add_row-requires-clause-lengths g c =
     let i = c.self.inside in
     let page = page_of i.form i.texts i.vars.now i.document.now i.gather in
-    as_wide page i.kept c.self.invariant.0 c.args.spans.now (subst (λ (p : Page). Fits p c.args.spans.now) (sym c.self.view_is) c.requires.fits)
+    as_wide page i.kept c.self.invariant.0 c.args.spans.now (rw (← c.self.view_is) at c.requires.fits)
 
 pub returns-clause-ok : goal.returns-clause-ok
 returns-clause-ok g c =
     let i = c.self.inside in
     let page = page_of i.form i.texts i.vars.now i.document.now i.gather in
-    let fits = subst (λ (p : Page). Fits p c.args.spans.now) (sym c.self.view_is) c.requires.fits in
+    let fits = rw (← c.self.view_is) at c.requires.fits in
     let did = change (g.O.Sink.told c.args.out.now) (g.O.Sink.told c.add_row.new.out) in
-    subst (λ (p : Page). Passes p.waiting (line_of p c.args.spans.now) c.add_row.new.self did) c.self.view_is
-    (subst (λ (line : List ℕ). Passes i.gather line c.add_row.new.self did) (row_line page i.kept c.self.invariant.0 c.args.spans.now fits) c.in_default.ensures.ok)
+    rw (← c.self.view_is)
+    (rw (← row_line page i.kept c.self.invariant.0 c.args.spans.now fits) c.in_default.ensures.ok)
 
 pub returns-in-Err-clause-part : goal.returns-in-Err-clause-part
 returns-in-Err-clause-part g c =
     let i = c.self.inside in
     let page = page_of i.form i.texts i.vars.now i.document.now i.gather in
-    let fits = subst (λ (p : Page). Fits p c.args.spans.now) (sym c.self.view_is) c.requires.fits in
+    let fits = rw (← c.self.view_is) at c.requires.fits in
     let did = change (g.O.Sink.told c.args.out.now) (g.O.Sink.told c.add_row.new.out) in
-    subst (λ (p : Page). AddsPart did (p.waiting ++ line_of p c.args.spans.now)) c.self.view_is
-    (subst (λ (line : List ℕ). AddsPart did (i.gather ++ line)) (row_line page i.kept c.self.invariant.0 c.args.spans.now fits) c.in-Err.ensures.part)
+    rw (← c.self.view_is)
+    (rw (← row_line page i.kept c.self.invariant.0 c.args.spans.now fits) c.in-Err.ensures.part)
