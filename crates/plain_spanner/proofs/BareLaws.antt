@@ -17,10 +17,10 @@ bare_part ts t has b x v = b x (part_has ts t x has v)
 
 pub bare_more : (ts : List Tree) (k : ℕ) (t : Tree) → slice_get ts k ≡ Some t → HasNoVar (cat_all (take k ts)) → HasNoVar t → HasNoVar (cat_all (take (k + 1) ts))
 bare_more ts k t at b one x v =
-    let p = parts_have (take k ts ++ t ∷ []) x (subst (λ us. HasVar (cat_all us) x) (take_at_more ts k t at) v) in
+    let p = parts_have (take k ts ++ t ∷ []) x (rw (← take_at_more ts k t at) v) in
     elim (Has-append_cases (take k ts) (t ∷ []) p.0 p.1) [
       | inl a ↦ b x (part_has (take k ts) p.0 x a p.2)
-      | inr a ↦ elim a [ inl e ↦ one x (subst (λ (u : Tree). HasVar u x) (sym e) p.2) | inr n ↦ n ]
+      | inr a ↦ elim a [ inl e ↦ one x (rw e p.2) | inr n ↦ n ]
     ]
 
 pub bare_take : (ts : List Tree) (k : ℕ) → HasNoVar (cat_all ts) → HasNoVar (cat_all (take k ts))

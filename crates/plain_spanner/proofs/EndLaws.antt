@@ -44,7 +44,7 @@ byte_there set d i b ends at is = tells_pushed (λ j. Fit (one set) d i j []) en
 
 module _ (d : List ℕ) (ts : List Tree) (k : ℕ) (t : Tree) (at : slice_get ts k ≡ Some t) where
   nothing_of : (P : Piece) (i j : ℕ) (m : Captures) → ((i j : ℕ) (m : Captures) → P i j m → m ≡ []) → P i j m → P i j []
-  nothing_of P i j m bare p = subst (λ n. P i j n) (bare i j m p) p
+  nothing_of P i j m bare p = rw (← bare i j m p) p
 
   pub turn_splits : HasNoVar (cat_all (take k ts)) → HasNoVar t → (i j : ℕ) → Fit (cat_all (take (k + 1) ts)) d i j [] → (n : ℕ) × Fit (cat_all (take k ts)) d i n [] × Fit t d n j []
   turn_splits firsts bare i j h =
@@ -61,7 +61,7 @@ pub turn_begins : (d : List ℕ) (ts : List Tree) (k : ℕ) → HasNoVar (cat_al
     (n : ℕ) × Fit (cat_all (take k ts)) d i n [] × ((m : Captures) × Fit (cat_all (drop k ts)) d n j m)
 turn_begins d ts k bare i j h =
     let s = cat_begins d ts k i j [] h in
-    (s.0, subst (λ n. Fit (cat_all (take k ts)) d i s.0 n) (front_nil s.1 s.2 s.6) s.3, (s.2, s.4))
+    (s.0, rw (front_nil s.1 s.2 s.6) at s.3, (s.2, s.4))
   where
     front_nil : (m n : Captures) → [] ≡ m ++ n → m ≡ []
     front_nil [] n e = refl
@@ -80,8 +80,8 @@ arms_done d ts starts H h = record {
 
 pub leads_nothing : (starts xs : List ℕ) → xs ≡ starts → Tells (Has xs) (LeadsOn Nothing starts)
 leads_nothing starts xs is = record {
-  each_so = λ j h. (j, subst (λ ys. Has ys j) is h, (refl, refl));
-  all_there = λ j h. subst (λ ys. Has ys j) (sym is) (subst (Has starts) h.2.0 h.1);
+  each_so = λ j h. (j, rw (← is) h, (refl, refl));
+  all_there = λ j h. rw is (subst (Has starts) h.2.0 h.1);
 }
 
 pub times_stay : (f : Tree) (d : List ℕ) (c i j : ℕ) → i ≤ length d → Times (Fit f d) c i j [] → j ≤ length d

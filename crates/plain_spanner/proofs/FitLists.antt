@@ -27,8 +27,8 @@ fit_append_cases xs ys f h = elim (Has-append_cases xs ys (f.1, h.0) h.1) as (λ
 
 pub fits_appended : (xs ys new : List CapturesAndEnds) (Q : EndAndCaptures → Type 0) → new ≡ xs ++ ys → Tells (HasFit ys) Q → Tells (HasFit new) (λ f. HasFit xs f ⊎ Q f)
 fits_appended xs ys new Q is h = record {
-  each_so = λ f a. elim (fit_append_cases xs ys f (subst (λ zs. HasFit zs f) is a)) as (λ _. HasFit xs f ⊎ Q f) [ inl b ↦ inl b | inr b ↦ inr (h.each_so f b) ];
-  all_there = λ f a. subst (λ zs. HasFit zs f) (sym is) (elim a as (λ _. HasFit (xs ++ ys) f) [
+  each_so = λ f a. elim (fit_append_cases xs ys f (rw (← is) a)) as (λ _. HasFit xs f ⊎ Q f) [ inl b ↦ inl b | inr b ↦ inr (h.each_so f b) ];
+  all_there = λ f a. rw is (elim a as (λ _. HasFit (xs ++ ys) f) [
     | inl b ↦ fit_append_left xs ys f b
     | inr b ↦ fit_append_right xs ys f (h.all_there f b)
   ]);
@@ -37,7 +37,7 @@ fits_appended xs ys new Q is h = record {
 -- the fits of one branch
 pub of_branch : (m : Captures) (ends : List ℕ) (f : EndAndCaptures) → HasFit ((m, ends) ∷ []) f → (m ≡ f.1) × Has ends f.0
 of_branch m ends f h = elim h.1 as (λ _. (m ≡ f.1) × Has ends f.0) [
-  | inl e ↦ (ap (λ (b : CapturesAndEnds). b.0) e, subst (λ (xs : List ℕ). Has xs f.0) (sym (ap (λ (b : CapturesAndEnds). b.1) e)) h.2)
+  | inl e ↦ (ap (λ (b : CapturesAndEnds). b.0) e, rw (ap (λ (b : CapturesAndEnds). b.1) e) h.2)
   | inr n ↦ absurd n
 ]
 
@@ -51,11 +51,11 @@ no_fits f h = h.1
 
 pub goes_nowhere : (firsts reached : List CapturesAndEnds) → reached ≡ firsts → Tells (HasFit reached) (Continued (HasFit firsts) Nothing)
 goes_nowhere firsts reached is = record {
-  each_so = λ f h. (f.0, f.1, [], subst (λ (xs : List CapturesAndEnds). HasFit xs f) is h, (refl, refl), sym (append-nil f.1));
+  each_so = λ f h. (f.0, f.1, [], rw (← is) h, (refl, refl), sym (append-nil f.1));
   all_there = λ f h.
       let e : h.1 ≡ f.1 = sym (h.5 ∙ ap (λ n. h.1 ++ n) h.4.1 ∙ append-nil h.1) in
-      subst (λ (xs : List CapturesAndEnds). HasFit xs f) (sym is)
-      (subst (λ n. HasFit firsts (f.0, n)) e (subst (λ k. HasFit firsts (k, h.1)) h.4.0 h.3));
+      rw is
+      (rw (← e) (rw (← h.4.0) h.3));
 }
 
 module _ (A : EndAndCaptures → Type 0) (P Q R : Piece) (to : (i j : ℕ) (m : Captures) → R i j m → Then P Q i j m) where
@@ -87,11 +87,11 @@ module _ (A : EndAndCaptures → Type 0) (P Q R : Piece) (to : (i j : ℕ) (m : 
   -- where there is none none goes on
   pub goes_on_none : (xs : List CapturesAndEnds) → xs ≡ [] → Tells (HasFit xs) (Continued A P) → Tells (HasFit xs) (Continued A R)
   goes_on_none xs none first = record {
-    each_so = λ f h. absurd (no_fits f (subst (λ (ys : List CapturesAndEnds). HasFit ys f) none h));
+    each_so = λ f h. absurd (no_fits f (rw none at h));
     all_there = λ f h.
         let s = to h.0 f.0 h.2 h.4 in
         let here = first.all_there (s.0, h.1 ++ s.1) (h.0, h.1, s.1, h.3, s.3, refl) in
-        absurd (no_fits (s.0, h.1 ++ s.1) (subst (λ (ys : List CapturesAndEnds). HasFit ys (s.0, h.1 ++ s.1)) none here));
+        absurd (no_fits (s.0, h.1 ++ s.1) (rw none at here));
   }
 
 pub go_within : (A : EndAndCaptures → Type 0) (P : Piece) (n : ℕ) (xs : List CapturesAndEnds) → ((i j : ℕ) (m : Captures) → i ≤ n → P i j m → j ≤ n) → ((f : EndAndCaptures) → A f → f.0 ≤ n) →
@@ -180,7 +180,7 @@ bare_branch P bare b later all = record {
       (a.0, [], a.1, a.2, sym o.0 ∙ sym (append-nil b.0));
   all_there = λ f h.
       let e : h.1 ≡ [] = bare h.0 f.0 h.1 h.3 in
-      branch_of b.0 later f (sym (h.4 ∙ ap (λ n. b.0 ++ n) e ∙ append-nil b.0)) (all.all_there f.0 (h.0, h.2, subst (λ n. P h.0 f.0 n) e h.3));
+      branch_of b.0 later f (sym (h.4 ∙ ap (λ n. b.0 ++ n) e ∙ append-nil b.0)) (all.all_there f.0 (h.0, h.2, rw (← e) h.3));
 }
 
 -- the fits of a capture from a place, from the fits of what it captures
@@ -192,7 +192,7 @@ named_from x P m0 i inner all f = (
       let o = of_branch [] (i ∷ []) (a.0, a.1) a.3 in
       let place : i ≡ a.0 = elim o.1 as (λ _. i ≡ a.0) [ inl e ↦ e | inr n ↦ absurd n ] in
       let captured : h.0.0 ≡ a.2 = a.5 ∙ ap (λ n. n ++ a.2) (sym o.0) in
-      (h.2.0, h.0.0, subst (λ n. P i h.2.0 n) (sym captured) (subst (λ k. P k h.2.0 a.2) (sym place) a.4), h.2.2),
+      (h.2.0, h.0.0, rw captured (rw place a.4), h.2.2),
   λ h.
       let here = all.all_there (h.0, h.1) (i, [], h.1, branch_of [] (i ∷ []) (i, []) refl (inl refl), h.2, refl) in
       ((h.1, here.0), here.1, (h.0, here.2, h.3)),
@@ -210,7 +210,7 @@ captures_go_on d x g firsts H fresh all = record {
       let to = p.3 in
       let j : p.0 ≡ f.0 = sym (ap (λ (e : EndAndCaptures). e.0) to.3) in
       let m : f.1 ≡ b.0 ++ (x, to.0) ∷ p.1 = ap (λ (e : EndAndCaptures). e.1) to.3 in
-      let fits = subst (λ n. Fit g d i n p.1) j p.2 in
+      let fits = rw j at p.2 in
       (i, b.0, (x, to.0) ∷ p.1, (b.1, s.1, s.2.1), (to.0, p.1, to.1, to.2 ∙ j, fits, λ a. fresh (fit_only_vars g d i f.0 p.1 fits x a), refl), m);
   all_there = λ f h.
       let c = h.4 in

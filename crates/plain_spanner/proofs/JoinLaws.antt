@@ -32,10 +32,10 @@ pub shared_more : (left right shared grown : List VarName) (k : ℕ) (y : VarNam
     Has grown x ↔ (Has (take (k + 1) left) x × Has right x)
 shared_more left right shared grown k y at here so_far added x = (
   λ h. elim ((added x).0 h) as (λ _. Has (take (k + 1) left) x × Has right x) [
-    | inl a ↦ (let b = (so_far x).0 a in (subst (λ (ns : List VarName). Has ns x) (sym (take_at_more left k y at)) (Has-append_left (take k left) (y ∷ []) x b.0), b.1))
-    | inr e ↦ (subst (λ (ns : List VarName). Has ns x) (sym (take_at_more left k y at)) (Has-append_right (take k left) (y ∷ []) x (inl e)), subst (Has right) e here)
+    | inl a ↦ (let b = (so_far x).0 a in (rw (take_at_more left k y at) (Has-append_left (take k left) (y ∷ []) x b.0), b.1))
+    | inr e ↦ (rw (take_at_more left k y at) (Has-append_right (take k left) (y ∷ []) x (inl e)), subst (Has right) e here)
   ],
-  λ h. (added x).1 (elim (Has-append_cases (take k left) (y ∷ []) x (subst (λ (ns : List VarName). Has ns x) (take_at_more left k y at) h.0)) as (λ _. Has shared x ⊎ (y ≡ x)) [
+  λ h. (added x).1 (elim (Has-append_cases (take k left) (y ∷ []) x (rw (← take_at_more left k y at) h.0)) as (λ _. Has shared x ⊎ (y ≡ x)) [
     | inl a ↦ inl ((so_far x).1 (a, h.1))
     | inr b ↦ elim b as (λ _. Has shared x ⊎ (y ≡ x)) [ inl e ↦ inr e | inr n ↦ absurd n ]
   ]),
@@ -44,8 +44,8 @@ shared_more left right shared grown k y at here so_far added x = (
 pub shared_same : (left right shared : List VarName) (k : ℕ) (y : VarName) → slice_get left k ≡ Some y → (Has right y → ⊥) →
     ((x : VarName) → Has shared x ↔ (Has (take k left) x × Has right x)) → (x : VarName) → Has shared x ↔ (Has (take (k + 1) left) x × Has right x)
 shared_same left right shared k y at out so_far x = (
-  λ h. let b = (so_far x).0 h in (subst (λ (ns : List VarName). Has ns x) (sym (take_at_more left k y at)) (Has-append_left (take k left) (y ∷ []) x b.0), b.1),
-  λ h. elim (Has-append_cases (take k left) (y ∷ []) x (subst (λ (ns : List VarName). Has ns x) (take_at_more left k y at) h.0)) as (λ _. Has shared x) [
+  λ h. let b = (so_far x).0 h in (rw (take_at_more left k y at) (Has-append_left (take k left) (y ∷ []) x b.0), b.1),
+  λ h. elim (Has-append_cases (take k left) (y ∷ []) x (rw (← take_at_more left k y at) h.0)) as (λ _. Has shared x) [
     | inl a ↦ (so_far x).1 (a, h.1)
     | inr b ↦ elim b as (λ _. Has shared x) [ inl e ↦ absurd (out (subst (Has right) (sym e) h.1)) | inr n ↦ absurd n ]
   ],
@@ -216,7 +216,7 @@ key_tied a b e = ap (λ (x : SpanRow). is_eq (row_cmp a x)) (sym e) ∙ ap is_eq
 
 module _ {X : Type 0} (items : X → List ℕ) where
   before_items : (o : Option X) (start : X) (p : ℕ) → items start ≡ [] → Has (items (unwrap_or o start)) p ↔ IsSomeAnd o (λ v. Has (items v) p)
-  before_items None start p none = (λ h. subst (λ (xs : List ℕ). Has xs p) none h, λ h. absurd h)
+  before_items None start p none = (λ h. rw none at h, λ h. absurd h)
   before_items (Some v) start p none = (λ h. h, λ h. h)
 
   place_by : (t : Bool) (key q : SpanRow) (place p : ℕ) (old_key old_q mid_q new_q : Option X) (after start : X) → (t ≡ true → key ≡ q) → (key ≡ q → t ≡ true) → (key ≡ q → old_key ≡ old_q) →
@@ -226,23 +226,23 @@ module _ {X : Type 0} (items : X → List ℕ) where
       let k = is refl in
       let b = before_items old_key start p none in (
         λ h.
-            let a = subst (λ (xs : List ℕ). Has xs p) grown (subst (λ (o : Option X). IsSomeAnd o (λ v. Has (items v) p)) new h) in
+            let a = rw grown at (rw new at h) in
             elim (Has-append_cases (items (unwrap_or old_key start)) (place ∷ []) p a) as (λ _. IsSomeAnd old_q (λ v. Has (items v) p) ⊎ ((key ≡ q) × (place ≡ p))) [
-              | inl c ↦ inl (subst (λ (o : Option X). IsSomeAnd o (λ v. Has (items v) p)) (same k) (b.0 c))
+              | inl c ↦ inl (rw (same k) at (b.0 c))
               | inr c ↦ elim c as (λ _. IsSomeAnd old_q (λ v. Has (items v) p) ⊎ ((key ≡ q) × (place ≡ p))) [ inl e ↦ inr (k, e) | inr n ↦ absurd n ]
             ],
         λ h.
             let a : Has (items (unwrap_or old_key start) ++ place ∷ []) p = elim h as (λ _. Has (items (unwrap_or old_key start) ++ place ∷ []) p) [
-              | inl c ↦ Has-append_left (items (unwrap_or old_key start)) (place ∷ []) p (b.1 (subst (λ (o : Option X). IsSomeAnd o (λ v. Has (items v) p)) (sym (same k)) c))
+              | inl c ↦ Has-append_left (items (unwrap_or old_key start)) (place ∷ []) p (b.1 (rw (← (same k)) at c))
               | inr e ↦ Has-append_right (items (unwrap_or old_key start)) (place ∷ []) p (inl e.1)
             ] in
             subst (λ (o : Option X). IsSomeAnd o (λ v. Has (items v) p)) (sym new) (subst (λ (xs : List ℕ). Has xs p) (sym grown) a),
       )
   place_by false key q place p old_key old_q mid_q new_q after start is tied same mid new none grown =
       let e : new_q ≡ old_q = new ∙ mid in (
-        λ h. inl (subst (λ (o : Option X). IsSomeAnd o (λ v. Has (items v) p)) e h),
+        λ h. inl (rw e at h),
         λ h. elim h as (λ _. IsSomeAnd new_q (λ v. Has (items v) p)) [
-          | inl c ↦ subst (λ (o : Option X). IsSomeAnd o (λ v. Has (items v) p)) (sym e) c
+          | inl c ↦ rw (← e) at c
           | inr k ↦ absurd (false≢true (tied k.0))
         ],
       )
@@ -261,7 +261,7 @@ pub places_of_more : (names key_names : List VarName) (rows : List SpanRow) (k :
 places_of_more names key_names rows k row key Old New at is old new q p = (
   λ h. elim ((new q p).0 h) as (λ _. (p < k + 1) × HasKeyAt names key_names rows q p) [
     | inl o ↦ (let a = (old q p).0 o in let l = a.0 in (omega arith, a.1))
-    | inr e ↦ (omega (arith, e.1), (row, subst (λ n. slice_get rows n ≡ Some row) e.1 at, sym is ∙ e.0))
+    | inr e ↦ (omega (arith, e.1), (row, rw (← e.1) at, sym is ∙ e.0))
   ],
   λ h. (new q p).1 (elim (cases_lt p k) as (λ _. Old q p ⊎ ((key ≡ q) × (k ≡ p))) [
     | inl l ↦ inl ((old q p).1 (l, h.1))

@@ -69,7 +69,7 @@ module _ (q : QueryTree) (d : List ℕ) (n : ℕ) where
   left_table e g names others lefts rights rows t u same all =
       let is : others ≡ names =
       same_names others names u.ascending t.ascending (λ x h. (t.named x).1 ((same x).1 ((u.named x).0 h))) (λ x h. (u.named x).1 ((same x).0 ((t.named x).0 h))) in
-      let right : Tells (Has rights) (IsRowOf (Answer V A d g) names) = subst (λ (ns : List VarName). Tells (Has rights) (IsRowOf (Answer V A d g) ns)) is u.listed in
+      let right : Tells (Has rights) (IsRowOf (Answer V A d g) names) = rw (← is) u.listed in
       record {
         ascending = t.ascending;
         named = t.named;
@@ -102,7 +102,7 @@ module _ (q : QueryTree) (d : List ℕ) (n : ℕ) where
         elim (Has-append_cases es (e ∷ []) p.0 p.1) as (λ _. Answer V A d (union_all es) m ⊎ Answer V A d e m) [
           | inl a ↦ inl (some_union V A d es m p.0 a p.2)
           | inr b ↦ elim b as (λ _. Answer V A d (union_all es) m ⊎ Answer V A d e m) [
-            | inl i ↦ inr (subst (λ (w : ExprTree). Answer V A d w m) (sym i) p.2)
+            | inl i ↦ inr (rw i p.2)
             | inr no_more ↦ absurd no_more
           ]
         ]
@@ -142,7 +142,7 @@ module _ (q : QueryTree) (d : List ℕ) (n : ℕ) where
               let p = join_each V A d es n1 h.3 g a in
               (p.0, λ x. (λ v. (p.1 x).0 v ∙ (whole x).0 (join_part_var V es g x a v), (p.1 x).1), p.2)
           | inr b ↦ elim b as (λ _. (r : Mapping) × IsRestriction (VarOf V g) m r × Answer V A d g r) [
-            | inl i ↦ subst (λ (w : ExprTree). (r : Mapping) × IsRestriction (VarOf V w) m r × Answer V A d w r) i (n2, restricted (Has right) (VarOf V e) m n2 right_named h.4, h.5)
+            | inl i ↦ rw (← i) (n2, restricted (Has right) (VarOf V e) m n2 right_named h.4, h.5)
             | inr no_more ↦ absurd no_more
           ]
         ])
@@ -186,14 +186,14 @@ pub union_next : (q : QueryTree) (d : List ℕ) (n : ℕ) (es : List ExprTree) (
     IsTableOf q d n (union_all (take k es)) left lefts → IsTableOf q d n e right rights → Ascending names → Adds left (Has right) names → Tells (Has rows) (IsUnited names left right lefts rights) →
     IsTableOf q d n (union_all (take (k + 1) es)) names rows
 union_next q d n es k e left right names lefts rights rows at t u up named all =
-    subst (λ (gs : List ExprTree). IsTableOf q d n (union_all gs) names rows) (sym (take_at_more es k e at))
+    rw (take_at_more es k e at)
     (union_more q d n (take k es) e left right t.named u.named names lefts rights rows t u up named all)
 
 pub join_next : (q : QueryTree) (d : List ℕ) (n : ℕ) (es : List ExprTree) (k : ℕ) (e : ExprTree) (left right names : List VarName) (lefts rights rows : List SpanRow) → slice_get es k ≡ Some e →
     IsTableOf q d n (join_all (take k es)) left lefts → IsTableOf q d n e right rights → Ascending names → Adds left (Has right) names → Tells (Has rows) (IsJoined names left right lefts rights) →
     IsTableOf q d n (join_all (take (k + 1) es)) names rows
 join_next q d n es k e left right names lefts rights rows at t u up named all =
-    subst (λ (gs : List ExprTree). IsTableOf q d n (join_all gs) names rows) (sym (take_at_more es k e at))
+    rw (take_at_more es k e at)
     (join_more q d n (take k es) e left right t.named u.named names lefts rights rows t u up named all)
 
 -- ---- lets
@@ -211,7 +211,7 @@ this false Q W B C names rows e t = absurd (false≢true e)
 there : (o : Option (VarName × ExprTree)) (l : VarName × ExprTree) (W : ExprTree → VarName → Type 0) (C : ExprTree → Mapping →
     Type 0) (names : List VarName) (rows : List SpanRow) → o ≡ Some l → IsTable (W l.1) (C l.1) names rows →
     IsTable (λ x. IsSomeAnd o (λ l. W l.1 x)) (λ m. IsSomeAnd o (λ l. C l.1 m)) names rows
-there o l W C names rows e t = subst (λ (p : Option (VarName × ExprTree)). IsTable (λ x. IsSomeAnd p (λ l. W l.1 x)) (λ m. IsSomeAnd p (λ l. C l.1 m)) names rows) (sym e) t
+there o l W C names rows e t = rw e t
 
 number_other : (j k : ℕ) → j < k → nat_eq j k ≡ false
 number_other j k h = grind (arith, nat_tests)
@@ -232,7 +232,7 @@ tables_more q d tables grown l t at known one is j u place =
     let long : length grown ≡ suc n = ap length is ∙ omega (arith, length-append tables (t ∷ [])) in
     let here = ap (λ (ts : List Table). slice_get ts j) (sym is) ∙ place in
     let within = slice_get_within (tables ++ t ∷ []) j u here in
-    subst (λ m. IsTable (vars_of_lets q.lets m j) (answers_of_lets q.lets d m j) u.names u.rows.items) (sym long)
+    rw long
     (elim (cases_lt j n) as (λ _. IsTable (vars_of_lets q.lets (suc n) j) (answers_of_lets q.lets d (suc n) j) u.names u.rows.items) [
       | inl before ↦
           let b = number_other j n before in
@@ -247,7 +247,7 @@ tables_more q d tables grown l t at known one is j u place =
           this (nat_eq j n) (λ x. IsSomeAnd (slice_get q.lets n) (λ l. VarOf (vars_of_lets q.lets n) l.1 x)) (vars_of_lets q.lets n j)
           (λ m. IsSomeAnd (slice_get q.lets n) (λ l. Answer (vars_of_lets q.lets n) (answers_of_lets q.lets d n) d l.1 m)) (answers_of_lets q.lets d n j) u.names u.rows.items b
           (there (slice_get q.lets n) l (λ e. VarOf (vars_of_lets q.lets n) e) (λ e. Answer (vars_of_lets q.lets n) (answers_of_lets q.lets d n) d e) u.names u.rows.items at
-          (subst (λ (w : Table). IsTableOf q d n l.1 w.names w.rows.items) same one))
+          (rw (← same) one))
     ])
   where
     table_is : (x y : Table) → Some x ≡ Some y → x ≡ y
@@ -258,21 +258,21 @@ tables_more q d tables grown l t at known one is j u place =
 pub asked_let : (q : QueryTree) (n k : ℕ) (l : VarName × ExprTree) → IsSound q → n ≡ k → slice_get q.lets k ≡ Some l → IsAsked q n l.1
 asked_let q n k l s e at = record {
   sound = s;
-  sound_expr = subst (λ m. IsSoundExpr (vars_of_lets q.lets m) (sure_of_lets q.lets m) m l.1) (sym e) (s.sound_lets k l at).0;
+  sound_expr = rw e (s.sound_lets k l at).0;
   named = λ x h. inl (let_named q.lets k l x at h);
 }
 
 pub asked_body : (q : QueryTree) (n : ℕ) → IsSound q → n ≡ length q.lets → IsAsked q n q.body
 asked_body q n s e = record {
   sound = s;
-  sound_expr = subst (λ m. IsSoundExpr (vars_of_lets q.lets m) (sure_of_lets q.lets m) m q.body) (sym e) s.sound_body.0;
+  sound_expr = rw e s.sound_body.0;
   named = λ x h. inr h;
 }
 
 -- rows of one length in order are in block order
 before_of : (a b : SpanRow) → length a ≡ length b → row_cmp a b ≡ Less → StandsBefore a b
 before_of a b same e =
-    elim (subst (λ (o : Ordering). IsOrderOf o a b) e (row_cmp_is a b)) as (λ _. StandsBefore a b) [ inl l ↦ absurd (omega (arith, l, same)) | inr p ↦ p.1 ]
+    elim (rw e at (row_cmp_is a b)) as (λ _. StandsBefore a b) [ inl l ↦ absurd (omega (arith, l, same)) | inr p ↦ p.1 ]
 
 all_before : (a : SpanRow) (rows : List SpanRow) → ((r : SpanRow) → Has rows r → length a ≡ length r) → AllByRecursion (λ b. row_cmp a b ≡ Less) rows → AllByRecursion (StandsBefore a) rows
 all_before a [] long h = tt
@@ -286,9 +286,9 @@ in_block_order n (a ∷ rows) long h = (all_before a rows (λ r k. long a (inl r
 pub are_answers : (q : QueryTree) (d : List ℕ) (n : ℕ) (found : List VarName) (rows sorted : List SpanRow) → n ≡ length q.lets → IsTableOf q d n q.body found rows → IsStrictlySortedBy row_cmp sorted →
     ((r : SpanRow) → Has rows r → Has sorted r) → ((r : SpanRow) → Has sorted r → Has rows r) → (names : List VarName) → AreResultNames q names → AreAnswers q d names sorted
 are_answers q d n found rows sorted e t up keeps adds_none names result =
-    let u = subst (λ m. IsTableOf q d m q.body found rows) e t in
+    let u = rw e at t in
     let same : found ≡ names = same_names found names u.ascending result.0 (λ x h. (result.1 x).1 ((u.named x).0 h)) (λ x h. (u.named x).1 ((result.1 x).0 h)) in
-    let v = subst (λ (ns : List VarName). IsTableOf q d (length q.lets) q.body ns rows) same u in
+    let v = rw same at u in
     record {
       in_order = in_block_order (length names) sorted (λ r h. let s = v.listed.each_so r (adds_none r h) in ap length s.2 ∙ row_length names s.0) up;
       each_answers = λ r h. v.listed.each_so r (adds_none r h);

@@ -18,7 +18,7 @@ pub none_more : (rows : List SpanRow) (i : ℕ) (x r : SpanRow) → i < length r
 none_more rows i x r l is off before h = elim (Has-take_more_cases rows i x r l h) as (λ _. ⊥) [ inl a ↦ before a | inr e ↦ off (is ∙ e) ]
 
 pub left_none : (rights : List SpanRow) (rows : List SpanRow) → rows ≡ [] → Tells (Has rows) (IsLeft [] rights)
-left_none rights rows e = record { each_so = λ r h. absurd (subst (λ (xs : List SpanRow). Has xs r) e h); all_there = λ r h. absurd h.0 }
+left_none rights rows e = record { each_so = λ r h. absurd (rw e at h); all_there = λ r h. absurd h.0 }
 
 pub left_more : (lefts rights : List SpanRow) (i : ℕ) (x y : SpanRow) (old new : List SpanRow) → i < length lefts → x ≡ get_or lefts i x → y ≡ x → Tells (Has old) (IsLeft (take i lefts) rights) →
     ((r : SpanRow) → Has old r → Has new r) → ((r : SpanRow) → Has new r → Has old r ⊎ ((r ≡ y) × (Has rights r → ⊥))) → ((Has rights y → ⊥) → Has new y) →
@@ -35,17 +35,17 @@ left_more lefts rights i x y old new l is same t kept only added = record {
 }
 
 pub left_all : (lefts rights rows : List SpanRow) (i : ℕ) → length lefts ≤ i → Tells (Has rows) (IsLeft (take i lefts) rights) → Tells (Has rows) (IsLeft lefts rights)
-left_all lefts rights rows i past t = subst (λ (xs : List SpanRow). Tells (Has rows) (IsLeft xs rights)) (take_all i lefts past) t
+left_all lefts rights rows i past t = rw (← take_all i lefts past) t
 
 pub pushed_kept : (old new : List SpanRow) (x : SpanRow) → new ≡ old ++ x ∷ [] → (r : SpanRow) → Has old r → Has new r
-pushed_kept old new x e r h = subst (λ (xs : List SpanRow). Has xs r) (sym e) (Has-append_left old (x ∷ []) r h)
+pushed_kept old new x e r h = rw e (Has-append_left old (x ∷ []) r h)
 
 pub pushed_has : (old new : List SpanRow) (x : SpanRow) → new ≡ old ++ x ∷ [] → Has new x
-pushed_has old new x e = subst (λ (xs : List SpanRow). Has xs x) (sym e) (Has-append_right old (x ∷ []) x (inl refl))
+pushed_has old new x e = rw e (Has-append_right old (x ∷ []) x (inl refl))
 
 pub pushed_only : (old new rights : List SpanRow) (x : SpanRow) → new ≡ old ++ x ∷ [] → (Has rights x → ⊥) → (r : SpanRow) → Has new r → Has old r ⊎ ((r ≡ x) × (Has rights r → ⊥))
 pushed_only old new rights x e none r h =
-    elim (Has-append_cases old (x ∷ []) r (subst (λ (xs : List SpanRow). Has xs r) e h)) as (λ _. Has old r ⊎ ((r ≡ x) × (Has rights r → ⊥))) [
+    elim (Has-append_cases old (x ∷ []) r (rw (← e) h)) as (λ _. Has old r ⊎ ((r ≡ x) × (Has rights r → ⊥))) [
       | inl a ↦ inl a
-      | inr b ↦ elim b as (λ _. Has old r ⊎ ((r ≡ x) × (Has rights r → ⊥))) [ inl same ↦ inr (sym same, subst (λ (y : SpanRow). Has rights y → ⊥) same none) | inr n ↦ absurd n ]
+      | inr b ↦ elim b as (λ _. Has old r ⊎ ((r ≡ x) × (Has rights r → ⊥))) [ inl same ↦ inr (sym same, rw (← same) none) | inr n ↦ absurd n ]
     ]

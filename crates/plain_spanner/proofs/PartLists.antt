@@ -31,10 +31,10 @@ module _ (d : List ℕ) where
       )
 
   pub cat_join : (xs ys : List Tree) (i j : ℕ) (m : Captures) → Then (Fit (cat_all xs) d) (Fit (cat_all ys) d) i j m → Fit (cat_all (xs ++ ys)) d i j m
-  cat_join [] ys i j m h = subst (λ n. Fit (cat_all ys) d i j n) (sym (h.6 ∙ ap (λ n. n ++ h.2) h.3.1)) (subst (λ k. Fit (cat_all ys) d k j h.2) (sym h.3.0) h.4)
+  cat_join [] ys i j m h = rw (h.6 ∙ ap (λ n. n ++ h.2) h.3.1) (rw h.3.0 h.4)
   cat_join (f ∷ xs) ys i j m h =
       let g = h.3 in
-      let apart : AreApart (g.1 ++ g.2) h.2 = subst (λ (n : Captures). AreApart n h.2) g.6 h.5 in
+      let apart : AreApart (g.1 ++ g.2) h.2 = rw (← g.6) h.5 in
       let rest = cat_join xs ys g.0 j (g.2 ++ h.2) (h.0, g.2, h.2, g.4, h.4, λ x a b. apart x (Captured-append_right g.1 g.2 x a) b, refl) in (
         g.0,
         g.1,
@@ -51,7 +51,7 @@ module _ (d : List ℕ) where
   pub one_part : (t : Tree) (i j : ℕ) (m : Captures) → Fit (cat_all (t ∷ [])) d i j m → Fit t d i j m
   one_part t i j m h =
       let e : m ≡ h.1 = h.6 ∙ ap (λ n. h.1 ++ n) h.4.1 ∙ append-nil h.1 in
-      subst (λ n. Fit t d i j n) (sym e) (subst (λ k. Fit t d i k h.1) h.4.0 h.3)
+      rw e (rw (← h.4.0) h.3)
 
   pub part_one : (t : Tree) (i j : ℕ) (m : Captures) → Fit t d i j m → Fit (cat_all (t ∷ [])) d i j m
   part_one t i j m h = (j, m, [], h, (refl, refl), λ x a b. b, sym (append-nil m))
@@ -60,17 +60,17 @@ module _ (d : List ℕ) where
   pub cat_more_split : (ts : List Tree) (k : ℕ) (t : Tree) (i j : ℕ) (m : Captures) → slice_get ts k ≡ Some t →
       Fit (cat_all (take (k + 1) ts)) d i j m → Then (Fit (cat_all (take k ts)) d) (Fit t d) i j m
   cat_more_split ts k t i j m at h =
-      let s = cat_split (take k ts) (t ∷ []) i j m (subst (λ us. Fit (cat_all us) d i j m) (take_at_more ts k t at) h) in
+      let s = cat_split (take k ts) (t ∷ []) i j m (rw (← take_at_more ts k t at) h) in
       (s.0, s.1, s.2, s.3, one_part t s.0 j s.2 s.4, s.5, s.6)
 
   pub cat_more_join : (ts : List Tree) (k : ℕ) (t : Tree) (i j : ℕ) (m : Captures) → slice_get ts k ≡ Some t →
       Then (Fit (cat_all (take k ts)) d) (Fit t d) i j m → Fit (cat_all (take (k + 1) ts)) d i j m
   cat_more_join ts k t i j m at h =
-      subst (λ us. Fit (cat_all us) d i j m) (sym (take_at_more ts k t at)) (cat_join (take k ts) (t ∷ []) i j m (h.0, h.1, h.2, h.3, part_one t h.0 j h.2 h.4, h.5, h.6))
+      rw (take_at_more ts k t at) (cat_join (take k ts) (t ∷ []) i j m (h.0, h.1, h.2, h.3, part_one t h.0 j h.2 h.4, h.5, h.6))
 
   -- the parts so far begin each fit of all
   pub cat_begins : (ts : List Tree) (k i j : ℕ) (m : Captures) → Fit (cat_all ts) d i j m → Then (Fit (cat_all (take k ts)) d) (Fit (cat_all (drop k ts)) d) i j m
-  cat_begins ts k i j m h = cat_split (take k ts) (drop k ts) i j m (subst (λ us. Fit (cat_all us) d i j m) (sym (take-append-drop k ts)) h)
+  cat_begins ts k i j m h = cat_split (take k ts) (drop k ts) i j m (rw (take-append-drop k ts) h)
 
   -- the arms
   pub arm_of : (ts : List Tree) (i j : ℕ) (m : Captures) → Fit (alt_all ts) d i j m → (t : Tree) × Has ts t × Fit t d i j m
@@ -80,7 +80,7 @@ module _ (d : List ℕ) where
 
   pub of_arm : (ts : List Tree) (t : Tree) (i j : ℕ) (m : Captures) → Has ts t → Fit t d i j m → Fit (alt_all ts) d i j m
   of_arm [] t i j m has h = absurd has
-  of_arm (u ∷ ts) t i j m (inl e) h = inl (subst (λ (v : Tree). Fit v d i j m) (sym e) h)
+  of_arm (u ∷ ts) t i j m (inl e) h = inl (rw e h)
   of_arm (u ∷ ts) t i j m (inr has) h = inr (of_arm ts t i j m has h)
 
 -- a part has no variable of those before it

@@ -19,14 +19,14 @@ module _ (P : Piece) (bare : (i j : ℕ) (m : Captures) → P i j m → m ≡ []
   -- the first piece and the others
   first_bare : (c i j : ℕ) → Times P (suc c) i j [] → (k : ℕ) × P i k [] × Times P c k j []
   first_bare c i j h =
-      (h.0, subst (λ n. P i h.0 n) (bare i h.0 h.1 h.3) h.3, subst (λ n. Times P c h.0 j n) (times_bare c h.0 j h.2 h.4) h.4)
+      (h.0, rw (← bare i h.0 h.1 h.3) h.3, rw (← times_bare c h.0 j h.2 h.4) h.4)
 
   pub times_snoc : (c i k j : ℕ) → Times P c i k [] → P k j [] → Times P (suc c) i j []
-  times_snoc zero i k j h p = more_times P zero i j j (subst (λ n. P n j []) (sym h.0) p) (refl, refl)
+  times_snoc zero i k j h p = more_times P zero i j j (rw h.0 p) (refl, refl)
   times_snoc (suc c) i k j h p = let f = first_bare c i k h in more_times P (suc c) i f.0 j f.1 (times_snoc c f.0 k j f.2 p)
 
   pub times_unsnoc : (c i j : ℕ) → Times P (suc c) i j [] → (k : ℕ) × Times P c i k [] × P k j []
-  times_unsnoc zero i j h = let f = first_bare zero i j h in (i, (refl, refl), subst (λ n. P i n []) f.2.0 f.1)
+  times_unsnoc zero i j h = let f = first_bare zero i j h in (i, (refl, refl), rw (← f.2.0) f.1)
   times_unsnoc (suc c) i j h =
       let f = first_bare (suc c) i j h in
       let r = times_unsnoc c f.0 j f.2 in
@@ -34,26 +34,26 @@ module _ (P : Piece) (bare : (i j : ℕ) (m : Captures) → P i j m → m ≡ []
 
   -- a part of the pieces, and the rest
   pub times_split : (a b i j : ℕ) → Times P (a + b) i j [] → (k : ℕ) × Times P a i k [] × Times P b k j []
-  times_split zero b i j h = (i, (refl, refl), let e : 0 + b ≡ b = omega arith in subst (λ n. Times P n i j []) e h)
+  times_split zero b i j h = (i, (refl, refl), let e : 0 + b ≡ b = omega arith in rw (← e) h)
   times_split (suc a) b i j h =
       let e : suc a + b ≡ suc (a + b) = omega arith in
-      let f = first_bare (a + b) i j (subst (λ n. Times P n i j []) e h) in
+      let f = first_bare (a + b) i j (rw e at h) in
       let r = times_split a b f.0 j f.2 in
       (r.0, more_times P a i f.0 r.0 f.1 r.1, r.2)
 
   times_join : (a b i k j : ℕ) → Times P a i k [] → Times P b k j [] → Times P (a + b) i j []
   times_join zero b i k j h g =
-      let e : b ≡ 0 + b = omega arith in subst (λ n. Times P n i j []) e (subst (λ n. Times P b n j []) (sym h.0) g)
+      let e : b ≡ 0 + b = omega arith in rw (← e) (rw h.0 g)
   times_join (suc a) b i k j h g =
       let e : suc (a + b) ≡ suc a + b = omega arith in
       let f = first_bare a i k h in
-      subst (λ n. Times P n i j []) e (more_times P (a + b) i f.0 j f.1 (times_join a b f.0 k j f.2 g))
+      rw (← e) (more_times P (a + b) i f.0 j f.1 (times_join a b f.0 k j f.2 g))
 
   -- the pieces so far begin more of them
   pub times_begin : (c count i j : ℕ) → c ≤ count → Times P count i j [] → (k : ℕ) × Times P c i k [] × Times P (count - c) k j []
   times_begin c count i j le h =
       let e : count ≡ c + (count - c) = omega arith in
-      times_split c (count - c) i j (subst (λ n. Times P n i j []) e h)
+      times_split c (count - c) i j (rw e at h)
 
 module _ (P : Piece) (bare : (i j : ℕ) (m : Captures) → P i j m → m ≡ []) (le : (i j : ℕ) (m : Captures) → P i j m → i ≤ j) where
   -- empty pieces can be left out
@@ -105,8 +105,8 @@ module _ (P Q R : Piece) (to : (i j : ℕ) → R i j [] → (k : ℕ) × P i k [
 -- where no end was reached none follows
 pub leads_none : (P Q R : Piece) → ((i j : ℕ) → R i j [] → (k : ℕ) × P i k [] × Q k j []) → (starts xs : List ℕ) → xs ≡ [] → Tells (Has xs) (LeadsOn P starts) → Tells (Has xs) (LeadsOn R starts)
 leads_none P Q R to starts xs none first = record {
-  each_so = λ j h. absurd (subst (λ ys. Has ys j) none h);
-  all_there = λ j h. let s = to h.0 j h.2 in let here = first.all_there s.0 (h.0, h.1, s.1) in absurd (subst (λ ys. Has ys s.0) none here);
+  each_so = λ j h. absurd (rw none at h);
+  all_there = λ j h. let s = to h.0 j h.2 in let here = first.all_there s.0 (h.0, h.1, s.1) in absurd (rw none at here);
 }
 
 pub leads_within : (P : Piece) (n : ℕ) (starts xs : List ℕ) → ((i j : ℕ) → i ≤ n → P i j [] → j ≤ n) → ((k : ℕ) → Has starts k → k ≤ n) → Tells (Has xs) (LeadsOn P starts) → (k : ℕ) → Has xs k → k ≤ n
@@ -115,13 +115,13 @@ leads_within P n starts xs stays within all k h = let a = all.each_so k h in sta
 -- ---- rounds that go on from each end once
 
 Has-begins : (xs ys : List ℕ) (x : ℕ) → IsPrefixOf xs ys → Has xs x → Has ys x
-Has-begins xs ys x b h = subst (λ zs. Has zs x) (sym b.joined) (Has-append_left xs b.rest x h)
+Has-begins xs ys x b h = rw b.joined (Has-append_left xs b.rest x h)
 
 take_begins : (xs ys : List ℕ) → IsPrefixOf xs ys → take (length xs) ys ≡ xs
 take_begins xs ys b = ap (take (length xs)) b.joined ∙ take_at xs b.rest (length xs) refl
 
 pub Has-drop : (xs : List ℕ) (k x : ℕ) → Has (drop k xs) x → Has xs x
-Has-drop xs k x h = subst (λ ys. Has ys x) (take-append-drop k xs) (Has-append_right (take k xs) (drop k xs) x h)
+Has-drop xs k x h = rw (← take-append-drop k xs) (Has-append_right (take k xs) (drop k xs) x h)
 
 -- a fit from one of the first `done` ends leads to an end that was reached
 abbrev pub Closed : Piece → ℕ → List ℕ → Type 0
@@ -134,7 +134,7 @@ module _ (P : Piece) (bare : (i j : ℕ) (m : Captures) → P i j m → m ≡ []
     all_there = λ j h.
         let lo = h.2 in
         let e : h.0 ≡ 0 = omega arith in
-        let t = subst (λ c. Times P c h.3.0 j []) e h.3.2 in
+        let t = rw e at h.3.2 in
         all.all_there j (inr (subst (Has starts) t.0 h.3.1));
   }
 
@@ -145,8 +145,8 @@ module _ (P : Piece) (bare : (i j : ℕ) (m : Captures) → P i j m → m ≡ []
       Tells (Has next) (LeadsOn P (drop done reached)) → Tells (Has grown) (λ j. Has reached j ⊎ Has next j) →
       Closed P (length reached) grown
   closed_more done reached next grown closed begins on all j h =
-      let whole = subst (λ ys. Has ys h.0) (take_begins reached grown begins) h.1 in
-      let parts = subst (λ ys. Has ys h.0) (sym (take-append-drop done reached)) whole in
+      let whole = rw (take_begins reached grown begins) at h.1 in
+      let parts = rw (← (take-append-drop done reached)) at whole in
       elim (Has-append_cases (take done reached) (drop done reached) h.0 parts) as (λ _. Has grown j) [
         | inl a ↦ all.all_there j (inl (closed j (h.0, a, h.2)))
         | inr a ↦ all.all_there j (inr (on.all_there j (h.0, a, h.2)))
@@ -175,7 +175,7 @@ module _ (P : Piece) (bare : (i j : ℕ) (m : Captures) → P i j m → m ≡ []
       there j (suc e) i hi s t =
           let u = times_unsnoc P bare e i j t in
           let k = before u.0 e i (omega arith) s u.1 in
-          let k' = subst (λ ys. Has ys u.0) (sym (take_begins reached grown begins)) k in
+          let k' = rw (← (take_begins reached grown begins)) at k in
           closed_more done reached next grown closed begins on all j (u.0, k', u.2)
 
   -- where each end was gone on from, more rounds lead to no other
@@ -192,4 +192,4 @@ module _ (P : Piece) (bare : (i j : ℕ) (m : Captures) → P i j m → m ≡ []
           let u = times_unsnoc P bare e i j t in
           let k = there u.0 e i s u.1 in
           let whole : take done reached ≡ reached = ap (λ n. take n reached) is ∙ take-length reached in
-          closed j (u.0, subst (λ ys. Has ys u.0) (sym whole) k, u.2)
+          closed j (u.0, rw whole k, u.2)

@@ -82,14 +82,14 @@ module _ (to_end : Bool) (f : Tree) (d : List ℕ) (names : List VarName) where
           let o = of_branch [] (i ∷ []) (g.0, g.1) g.3 in
           let place : i ≡ g.0 = elim o.1 as (λ _. i ≡ g.0) [ inl p ↦ p | inr n ↦ absurd n ] in
           let captured : b.0 ≡ g.2 = g.5 ∙ ap (λ n. n ++ g.2) (sym o.0) in
-          (span_of b.0, (i, e.0, b.0, omega arith, subst (λ n. Fit f d i e.0 n) (sym captured) (subst (λ k. Fit f d k e.0 g.2) (sym place) g.4), e.2, λ x. refl), e.3)
+          (span_of b.0, (i, e.0, b.0, omega arith, rw captured (rw place g.4), e.2, λ x. refl), e.3)
     ];
     all_there = λ r h. added.all_there r (elim (cases_lt h.1.0 i) as (λ _. Has rows r ⊎ FromSome (IsRowOfFits names to_end (length d)) found r) [
       | inl before ↦ inl (so_far.all_there r (h.0, (h.1.0, h.1.1, h.1.2, before, h.1.4, h.1.5, h.1.6), h.2))
       | inr now ↦
           let lt : h.1.0 < i + 1 = h.1.3 in
           let e : h.1.0 ≡ i = omega arith in
-          let fits = subst (λ n. Fit f d n h.1.1 h.1.2) e h.1.4 in
+          let fits = rw e at h.1.4 in
           let there = here.all_there (h.1.1, h.1.2) (i, [], h.1.2, branch_of [] (i ∷ []) (i, []) refl (inl refl), fits, refl) in
           inr ((h.1.2, there.0), there.1, (h.1.1, there.2, h.1.5, h.2 ∙ row_same names h.0 (span_of h.1.2) h.1.6))
     ]);
@@ -130,17 +130,17 @@ row_eq_exact a b e = by (row_cmp a b) refl e
   where
     by : (o : Ordering) → row_cmp a b ≡ o → is_eq o ≡ true → a ≡ b
     by Less r e = absurd (false≢true e)
-    by Equal r e = subst (λ (o : Ordering). IsOrderOf o a b) r (row_cmp_is a b)
+    by Equal r e = rw r at (row_cmp_is a b)
     by Greater r e = absurd (false≢true e)
 
 -- ---- names that were gathered
 
 pub gathered_are : (f : Tree) (old new : List VarName) (all : Bool) → old ≡ [] → all ≡ true → OnTrue all (Adds old (HasVar f) new) → (x : VarName) → Has new x → HasVar f x
 gathered_are f old new all none is added x h =
-    let a : Adds old (HasVar f) new = subst (λ (b : Bool). OnTrue b (Adds old (HasVar f) new)) is added in
-    elim ((a x).0 h) as (λ _. HasVar f x) [ inl o ↦ absurd (subst (λ (ns : List VarName). Has ns x) none o) | inr v ↦ v ]
+    let a : Adds old (HasVar f) new = rw is at added in
+    elim ((a x).0 h) as (λ _. HasVar f x) [ inl o ↦ absurd (rw none at o) | inr v ↦ v ]
 
 pub are_gathered : (f : Tree) (old new : List VarName) (all : Bool) → old ≡ [] → all ≡ true → OnTrue all (Adds old (HasVar f) new) → (x : VarName) → HasVar f x → Has new x
 are_gathered f old new all none is added x v =
-    let a : Adds old (HasVar f) new = subst (λ (b : Bool). OnTrue b (Adds old (HasVar f) new)) is added in
+    let a : Adds old (HasVar f) new = rw is at added in
     (a x).1 (inr v)

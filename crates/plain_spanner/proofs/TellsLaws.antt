@@ -36,8 +36,8 @@ module _ {X : Type 0} where
 
   pub tells_both : (xs ys new : List X) (Q R : X → Type 0) → new ≡ xs ++ ys → Tells (Has xs) Q → Tells (Has ys) R → Tells (Has new) (λ y. Q y ⊎ R y)
   tells_both xs ys new Q R is first next = record {
-    each_so = λ y a. elim (Has-append_cases xs ys y (subst (λ zs. Has zs y) is a)) as (λ _. Q y ⊎ R y) [ inl b ↦ inl (first.each_so y b) | inr b ↦ inr (next.each_so y b) ];
-    all_there = λ y a. subst (λ zs. Has zs y) (sym is) (elim a as (λ _. Has (xs ++ ys) y) [
+    each_so = λ y a. elim (Has-append_cases xs ys y (rw (← is) a)) as (λ _. Q y ⊎ R y) [ inl b ↦ inl (first.each_so y b) | inr b ↦ inr (next.each_so y b) ];
+    all_there = λ y a. rw is (elim a as (λ _. Has (xs ++ ys) y) [
       | inl b ↦ Has-append_left xs ys y (first.all_there y b)
       | inr b ↦ Has-append_right xs ys y (next.all_there y b)
     ]);
@@ -82,7 +82,7 @@ module _ {X Y : Type 0} (R : X → Y → Type 0) where
       | inl a ↦ inl (so_far.all_there y (inl a))
       | inr b ↦ elim (Has-take_more_cases xs i d b.0 within b.1) as (λ _. H y ⊎ R x y) [
         | inl c ↦ inl (so_far.all_there y (inr (b.0, c, b.2)))
-        | inr e ↦ inr (subst (λ z. R z y) (sym (is ∙ e)) b.2)
+        | inr e ↦ inr (rw (is ∙ e) b.2)
       ]
     ]);
   }
@@ -90,7 +90,7 @@ module _ {X Y : Type 0} (R : X → Y → Type 0) where
   pub from_all : (S H : Y → Type 0) (xs : List X) (i : ℕ) → i ≤ length xs → length xs ≤ i → Tells H (λ y. S y ⊎ FromSome R (take i xs) y) → Tells H (λ y. S y ⊎ FromSome R xs y)
   from_all S H xs i le ge so_far =
       let e : i ≡ length xs = omega arith in
-      subst (λ zs. Tells H (λ y. S y ⊎ FromSome R zs y)) (ap (λ n. take n xs) e ∙ take-length xs) so_far
+      rw (← (ap (λ n. take n xs) e ∙ take-length xs)) so_far
 
 -- what has no elements
 pub empty_list : {X : Type 0} (xs : List X) (n : ℕ) → n ≡ length xs → true ≡ nat_eq n 0 → xs ≡ []

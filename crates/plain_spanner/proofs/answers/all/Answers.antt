@@ -14,7 +14,7 @@ expr_table-requires c =
     let q = query_of c.args.query.now in
     let is = c.deref.ensures.value in
     record {
-      known = subst (λ (ts : List Table). AreTables q c.args.doc.now ts) (sym is) c.loop-k.invariant.1;
+      known = rw is c.loop-k.invariant.1;
       asked = asked_let q (length c.deref.result.now) c.loop-k.k (c.at.result.now.0, expr_of c.at.result.now.1) c.requires.sound (ap length is ∙ c.loop-k.invariant.0) c.at.ensures;
       short = c.requires.short;
     }
@@ -30,7 +30,7 @@ loop-k-preserved c =
     let t = c.in_ok-table.table in
     let l : VarName × ExprTree = (c.at.result.now.0, expr_of c.at.result.now.1) in
     let items = c.in_ok-push.ensures.items in
-    let table = subst (λ (ts : List Table). IsTableOf q d (length ts) l.1 t.names t.rows.items) c.deref.ensures.value c.in_ok-table.ensures in (
+    let table = rw c.deref.ensures.value at c.in_ok-table.ensures in (
       omega (arith, ap length items, length-append tables (t ∷ []), c.loop-k.invariant.0),
       tables_more q d tables c.push.new.self.items l t (ap (λ n. slice_get q.lets n) c.loop-k.invariant.0 ∙ c.at.ensures) c.loop-k.invariant.1 table items,
     )
@@ -41,7 +41,7 @@ expr_table-requires-2 c =
     let is = c.deref-2.ensures.value in
     let long : length c.deref-2.result.now ≡ length q.lets = omega (arith, ap length is, c.loop-k.invariant.0, c.loop-k-test.false, c.loop-k.auto.k-end, c.len-k-end.ensures) in
     record {
-      known = subst (λ (ts : List Table). AreTables q c.args.doc.now ts) (sym is) c.loop-k.invariant.1;
+      known = rw is c.loop-k.invariant.1;
       asked = asked_body q (length c.deref-2.result.now) c.requires.sound long;
       short = c.requires.short;
     }

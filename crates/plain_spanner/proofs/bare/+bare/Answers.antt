@@ -25,7 +25,7 @@ is_bare-returns-in-Cat t c =
 pub is_bare-returns-in-Rep : goal.is_bare-returns-in-Rep
 is_bare-returns-in-Rep t c =
     let e = ap tree_of c.in-Rep.is ∙ tree_of-Rep c.in-Rep.sub c.in-Rep.field-1 c.in-Rep.field-2 ∙ ap (λ x. rep (tree_of x) c.in-Rep.field-1 c.in-Rep.field-2) (sym c.deref.ensures) in
-    subst (λ (f : Tree). IsTrue c.is_bare.result ↔ HasNoVar f) (sym e) c.is_bare.ensures
+    rw e c.is_bare.ensures
 
 pub is_bare-returns-in-Cap : goal.is_bare-returns-in-Cap
 is_bare-returns-in-Cap t c =
@@ -51,4 +51,4 @@ pub are_bare-returns : goal.are_bare-returns
 are_bare-returns t c =
     let ts = trees_of c.args.parts.now in
     let e : c.loop-k.k ≡ length ts = omega arith in
-    (λ r. subst (λ us. HasNoVar (cat_all us)) (ap (λ n. take n ts) e ∙ take-length ts) c.loop-k.invariant, λ b. refl)
+    (λ r. rw (← (ap (λ n. take n ts) e ∙ take-length ts)) c.loop-k.invariant, λ b. refl)

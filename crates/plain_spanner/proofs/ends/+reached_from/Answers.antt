@@ -59,7 +59,7 @@ reached_from-repeated_more-requires t c =
     let within : (k : ℕ) → Has c.deref-in-Rep-2.result.now k → k ≤ length d = λ k h.
     leads_within (Times (Fit f d) c.in-Rep.least) (length d) c.args.starts.now c.in_ok-first-in-Rep.first.items
     (λ i j le h. times_stay f d c.in-Rep.least i j le h) c.requires.within c.in_ok-first-in-Rep.ensures k
-    (subst (λ (ys : List ℕ). Has ys k) c.deref-in-Rep-2.ensures.value h) in
+    (rw (← c.deref-in-Rep-2.ensures.value) h) in
     (omega (arith, n), ((w.0.0, omega (arith, deep)), (subst HasNoVar e c.requires.bare, (c.requires.short, within))))
 
 pub reached_from-returns-in_ok-first-in-Rep : goal.reached_from-returns-in_ok-first-in-Rep
@@ -73,26 +73,26 @@ reached_from-returns-in_ok-first-in-Rep t c =
     let same : tree_of c.deref-in-Rep.result.now ≡ f = ap tree_of (c.deref-in-Rep.ensures ∙ sym c.deref.ensures) in
     let bare = subst HasNoVar e c.requires.bare in
     IfOk-weaker c.repeated_more.result _ _ (λ v so.
-    let so' = subst (λ (g : Tree). Tells (Has v.items) (LeadsIn (Fit g d) 0 c.rounds-more.result c.deref-in-Rep-2.result.now)) same so in
-    let so'' = subst (λ (xs : List ℕ). Tells (Has v.items) (LeadsIn (Fit f d) 0 c.rounds-more.result xs)) c.deref-in-Rep-2.ensures.value so' in
-    subst (λ (g : Tree). Tells (Has v.items) (LeadsOn (Fit g d) starts)) (sym e)
+    let so' = rw same at so in
+    let so'' = rw c.deref-in-Rep-2.ensures.value at so' in
+    rw e
     (lists_repeat (Fit f d) (λ i j m h. fit_no_vars f d i j m bare h) (λ i j m h. fit_le f d i j m h) least c.rounds-more.result (length d) most starts c.in_ok-first-in-Rep.first.items (Has v.items)
     (λ i j n s h. times_stay f d n i j (c.requires.within i s) h) c.rounds-more.ensures.capped c.rounds-more.ensures.enough c.in_ok-first-in-Rep.ensures so'')) c.repeated_more.ensures
 
 pub reached_from-returns-in-Cat : goal.reached_from-returns-in-Cat
 reached_from-returns-in-Cat t c =
     let e = ap tree_of c.in-Cat.is ∙ tree_of-Cat c.in-Cat.parts in
-    subst (λ (f : Tree). IfOk c.in_turn.result (λ v. Tells (Has v.items) (LeadsOn (Fit f c.args.doc.now) c.args.starts.now))) (sym e) c.in_turn.ensures
+    rw e c.in_turn.ensures
 
 pub reached_from-returns-in-Alt : goal.reached_from-returns-in-Alt
 reached_from-returns-in-Alt t c =
     let e = ap tree_of c.in-Alt.is ∙ tree_of-Alt c.in-Alt.parts in
-    subst (λ (f : Tree). IfOk c.by_arms.result (λ v. Tells (Has v.items) (LeadsOn (Fit f c.args.doc.now) c.args.starts.now))) (sym e) c.by_arms.ensures
+    rw e c.by_arms.ensures
 
 pub reached_from-returns-in-One : goal.reached_from-returns-in-One
 reached_from-returns-in-One t c =
     let e = ap tree_of c.in-One.is ∙ tree_of-One c.in-One.set in
-    subst (λ (f : Tree). IfOk c.after_byte.result (λ v. Tells (Has v.items) (LeadsOn (Fit f c.args.doc.now) c.args.starts.now))) (sym e) c.after_byte.ensures
+    rw e c.after_byte.ensures
 
 pub reached_from-returns-in-Cap : goal.reached_from-returns-in-Cap
 reached_from-returns-in-Cap t c =
@@ -107,7 +107,7 @@ in_turn-reached_from-requires t c =
     let has = Has-slice_get ts c.loop-k.k (tree_of c.at.result.now) c.at.ensures in
     let within : (k : ℕ) → Has c.deref.result.now k → k ≤ length d = λ k h.
     leads_within (Fit g d) (length d) c.args.starts.now c.loop-k.reached.items (λ i j le h. fit_within g d i j [] le h) c.requires.within
-    c.loop-k.invariant k (subst (λ (ys : List ℕ). Has ys k) c.deref.ensures.value h) in (
+    c.loop-k.invariant k (rw (← c.deref.ensures.value) h) in (
       omega (arith, part_nodes ts (tree_of c.at.result.now) has),
       (c.requires.built (tree_of c.at.result.now) has, (bare_part ts (tree_of c.at.result.now) has c.requires.bare, (c.requires.short, within))),
     )
@@ -122,7 +122,7 @@ in_turn-loop-k-preserved t c =
     let k = c.loop-k.k in
     let u = tree_of c.at.result.now in
     let bare = bare_part ts u (Has-slice_get ts k u c.at.ensures) c.requires.bare in
-    let next = subst (λ (ys : List ℕ). Tells (Has c.in_ok-reached-2.reached.items) (LeadsOn (Fit u d) ys)) c.deref.ensures.value c.in_ok-reached-2.ensures in
+    let next = rw c.deref.ensures.value at c.in_ok-reached-2.ensures in
     leads_then (Fit (cat_all (take k ts)) d) (Fit u d) (Fit (cat_all (take (k + 1) ts)) d) (turn_splits d ts k u c.at.ensures (bare_take ts k c.requires.bare) bare) (turn_joins d ts k u c.at.ensures)
     c.args.starts.now c.loop-k.reached.items (Has c.in_ok-reached-2.reached.items) c.loop-k.invariant next
 
@@ -139,7 +139,7 @@ pub in_turn-returns : goal.in_turn-returns
 in_turn-returns t c =
     let ts = trees_of c.args.parts.now in
     let e : c.loop-k.k ≡ length ts = omega arith in
-    subst (λ (us : List Tree). Tells (Has c.loop-k.reached.items) (LeadsOn (Fit (cat_all us) c.args.doc.now) c.args.starts.now)) (ap (λ n. take n ts) e ∙ take-length ts) c.loop-k.invariant
+    rw (← (ap (λ n. take n ts) e ∙ take-length ts)) c.loop-k.invariant
 
 pub by_arms-reached_from-requires : goal.by_arms-reached_from-requires
 by_arms-reached_from-requires t c =
@@ -161,7 +161,7 @@ by_arms-loop-k-preserved t c =
 pub by_arms-loop-k-init : goal.by_arms-loop-k-init
 by_arms-loop-k-init t c =
     let R = λ (v : Tree) (j : ℕ). LeadsOn (Fit v c.args.doc.now) c.args.starts.now j in
-    subst (λ (xs : List ℕ). Tells (Has xs) (λ j. Has [] j ⊎ FromSome R [] j)) (sym c.new-all.ensures.items) (from_none R (Has []))
+    rw c.new-all.ensures.items (from_none R (Has []))
 
 pub by_arms-returns : goal.by_arms-returns
 by_arms-returns t c =
@@ -179,7 +179,7 @@ repeated-reached_from-requires t c =
     let within : (k : ℕ) → Has c.deref.result.now k → k ≤ length d = λ k h.
     leads_within (Times (Fit f d) c.loop-count._count) (length d) c.args.starts.now c.loop-count.reached.items
     (λ i j le h. times_stay f d c.loop-count._count i j le h) c.requires.within c.loop-count.invariant k
-    (subst (λ (ys : List ℕ). Has ys k) c.deref.ensures.value h) in
+    (rw (← c.deref.ensures.value) h) in
     (omega arith, (c.requires.built, (c.requires.bare, (c.requires.short, within))))
 
 pub repeated-loop-count-init : goal.repeated-loop-count-init
@@ -193,9 +193,9 @@ repeated-loop-count-preserved t c =
     let P = Fit f d in
     let e : n + 1 ≡ suc n = omega arith in
     let bare = λ (i j : ℕ) (m : Captures) (h : Fit f d i j m). fit_no_vars f d i j m c.requires.bare h in
-    let next = subst (λ (ys : List ℕ). Tells (Has c.in_ok-reached-2.reached.items) (LeadsOn P ys)) c.deref.ensures.value c.in_ok-reached-2.ensures in
-    leads_then (Times P n) P (Times P (n + 1)) (λ i j h. times_unsnoc P bare n i j (subst (λ m. Times P m i j []) e h))
-    (λ i k j p q. subst (λ m. Times P m i j []) (sym e) (times_snoc P bare n i k j p q))
+    let next = rw c.deref.ensures.value at c.in_ok-reached-2.ensures in
+    leads_then (Times P n) P (Times P (n + 1)) (λ i j h. times_unsnoc P bare n i j (rw e at h))
+    (λ i k j p q. rw e (times_snoc P bare n i k j p q))
     c.args.starts.now c.loop-count.reached.items (Has c.in_ok-reached-2.reached.items) c.loop-count.invariant next
 
 pub repeated-returns-then-is_empty : goal.repeated-returns-then-is_empty
@@ -212,14 +212,14 @@ repeated-returns-then-is_empty t c =
 pub repeated-returns : goal.repeated-returns
 repeated-returns t c =
     let e : c.loop-count._count ≡ c.args.count = omega arith in
-    subst (λ n. Tells (Has c.loop-count.reached.items) (LeadsTimes (Fit (tree_of c.args.sub.now) c.args.doc.now) n c.args.starts.now)) e c.loop-count.invariant
+    rw (← e) c.loop-count.invariant
 
 pub repeated_more-loop-round-init : goal.repeated_more-loop-round-init
 repeated_more-loop-round-init t c =
     let f = tree_of c.args.sub.now in
     let d = c.args.doc.now in
     let bare = λ (i j : ℕ) (m : Captures) (h : Fit f d i j m). fit_no_vars f d i j m c.requires.bare h in
-    let all = subst (λ (ys : List ℕ). Tells (Has c.add_all.new.self.ends.items) (λ j. Has ys j ⊎ Has c.args.starts.now j)) c.new-reached.ensures c.in_ok-add_all.ensures.all in
+    let all = rw c.new-reached.ensures at c.in_ok-add_all.ensures.all in
     (omega arith, rounds_none (Fit f d) bare c.args.starts.now (Has c.add_all.new.self.ends.items) all, closed_none (Fit f d) bare c.args.starts.now c.add_all.new.self.ends.items)
 
 pub repeated_more-reached_from-requires : goal.repeated_more-reached_from-requires
@@ -228,7 +228,7 @@ repeated_more-reached_from-requires t c =
     let d = c.args.doc.now in
     let within : (k : ℕ) → Has c.after.result.now k → k ≤ length d = λ k h.
     rounds_within f d c.args.starts.now c.loop-round.reached.ends.items 0 c.loop-round._round c.requires.within c.loop-round.invariant.1 k
-    (Has-drop c.loop-round.reached.ends.items c.loop-round.done k (subst (λ (ys : List ℕ). Has ys k) c.after.ensures h)) in
+    (Has-drop c.loop-round.reached.ends.items c.loop-round.done k (rw (← c.after.ensures) h)) in
     (omega arith, (c.requires.built, (c.requires.bare, (c.requires.short, within))))
 
 pub repeated_more-loop-round-preserved : goal.repeated_more-loop-round-preserved
@@ -240,12 +240,12 @@ repeated_more-loop-round-preserved t c =
     let reached = c.loop-round.reached.ends.items in
     let next = c.in_ok-next.next.items in
     let grown = c.add_all-in-loop-round.new.self.ends.items in
-    let on = subst (λ (ys : List ℕ). Tells (Has next) (LeadsOn P ys)) c.after.ensures c.in_ok-next.ensures in
-    let all = subst (λ (ys : List ℕ). Tells (Has grown) (λ j. Has reached j ⊎ Has ys j)) c.deref.ensures.value c.in_ok-add_all-2.ensures.all in
+    let on = rw c.after.ensures at c.in_ok-next.ensures in
+    let all = rw c.deref.ensures.value at c.in_ok-add_all-2.ensures.all in
     let begins = c.in_ok-add_all-2.ensures.grown in (
       omega (arith, c.len-done.ensures, ap length begins.joined, length-append reached begins.rest),
       rounds_more P bare c.args.starts.now c.loop-round._round c.loop-round.done reached next grown c.loop-round.invariant.1 c.loop-round.invariant.2 begins on all,
-      subst (λ n. Closed P n grown) (sym c.len-done.ensures) (closed_more P bare c.args.starts.now c.loop-round.done reached next grown c.loop-round.invariant.2 begins on all),
+      rw c.len-done.ensures (closed_more P bare c.args.starts.now c.loop-round.done reached next grown c.loop-round.invariant.2 begins on all),
     )
 
 pub repeated_more-returns-then-done-len : goal.repeated_more-returns-then-done-len
@@ -253,12 +253,12 @@ repeated_more-returns-then-done-len t c =
     let f = tree_of c.args.sub.now in
     let d = c.args.doc.now in
     let bare = λ (i j : ℕ) (m : Captures) (h : Fit f d i j m). fit_no_vars f d i j m c.requires.bare h in
-    subst (λ (xs : List ℕ). Tells (Has xs) (LeadsIn (Fit f d) 0 c.args.most c.args.starts.now)) (sym c.into_ends.ensures)
+    rw c.into_ends.ensures
     (rounds_done (Fit f d) bare c.args.starts.now c.loop-round._round c.args.most c.loop-round.done c.loop-round.reached.ends.items (omega arith)
     (c.if-done-len.true ∙ c.len.ensures) c.loop-round.invariant.1 c.loop-round.invariant.2)
 
 pub repeated_more-returns : goal.repeated_more-returns
 repeated_more-returns t c =
     let e : c.loop-round._round ≡ c.args.most = omega arith in
-    subst (λ (xs : List ℕ). Tells (Has xs) (LeadsIn (Fit (tree_of c.args.sub.now) c.args.doc.now) 0 c.args.most c.args.starts.now)) (sym c.into_ends-2.ensures)
-    (subst (λ n. Tells (Has c.loop-round.reached.ends.items) (LeadsIn (Fit (tree_of c.args.sub.now) c.args.doc.now) 0 n c.args.starts.now)) e c.loop-round.invariant.1)
+    rw c.into_ends-2.ensures
+    (rw (← e) c.loop-round.invariant.1)

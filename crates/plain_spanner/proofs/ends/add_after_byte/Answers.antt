@@ -26,7 +26,7 @@ returns-else-start-doc c =
       | else-start-doc-via-then-start-doc+else-contains w ↦ tells_unchanged (Has c.args.ends.now.items) (λ j. Fit (one c.args.set.now) d i j []) (λ j f.
           let at : slice_get d i ≡ Some (get_or d i 0) = slice_get-get_or d i 0 w.if-start-doc.true in
           let b : f.0 ≡ get_or d i 0 = same_Some f.0 (get_or d i 0) (sym f.1 ∙ at) in
-          absurd (false≢true (sym w.if-contains.false ∙ w.contains.ensures ∙ subst (λ x. contains c.args.set.now x ≡ true) b f.2)))
+          absurd (false≢true (sym w.if-contains.false ∙ w.contains.ensures ∙ rw (← b) f.2)))
       | else-start-doc-via-else-start-doc w ↦ tells_unchanged (Has c.args.ends.now.items) (λ j. Fit (one c.args.set.now) d i j []) (λ j f.
           let l : i < length d = slice_get_within d i f.0 f.1 in let g = w.if-start-doc.false in absurd (omega arith))
     ]

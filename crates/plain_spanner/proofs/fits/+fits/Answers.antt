@@ -57,17 +57,17 @@ go_on-captured-requires t c =
 pub go_on-returns-in-Cat : goal.go_on-returns-in-Cat
 go_on-returns-in-Cat t c =
     let e = ap tree_of c.in-Cat.is ∙ tree_of-Cat c.in-Cat.parts in
-    subst (λ (f : Tree). IfOk c.in_turn.result (λ v. Tells (HasFit v.items) (Continued (HasFit c.args.firsts.now) (Fit f c.args.doc.now)))) (sym e) c.in_turn.ensures
+    rw e c.in_turn.ensures
 
 pub go_on-returns-else-are_bare : goal.go_on-returns-else-are_bare
 go_on-returns-else-are_bare t c =
     let e = ap tree_of c.in-Alt.is ∙ tree_of-Alt c.in-Alt.parts in
-    subst (λ (f : Tree). IfOk c.by_arms.result (λ v. Tells (HasFit v.items) (Continued (HasFit c.args.firsts.now) (Fit f c.args.doc.now)))) (sym e) c.by_arms.ensures
+    rw e c.by_arms.ensures
 
 pub go_on-returns-in-Cap : goal.go_on-returns-in-Cap
 go_on-returns-in-Cap t c =
     let e = ap tree_of c.in-Cap.is ∙ tree_of-Cap c.in-Cap.name c.in-Cap.sub ∙ ap (λ x. cap c.in-Cap.name (tree_of x)) (sym c.deref-in-Cap.ensures) in
-    subst (λ (f : Tree). IfOk c.captured.result (λ v. Tells (HasFit v.items) (Continued (HasFit c.args.firsts.now) (Fit f c.args.doc.now)))) (sym e) c.captured.ensures
+    rw e c.captured.ensures
 
 pub in_turn-go_on-requires : goal.in_turn-go_on-requires
 in_turn-go_on-requires t c =
@@ -82,7 +82,7 @@ in_turn-go_on-requires t c =
         c.requires.built u has,
         (
           sequential_part ts u has c.requires.sequential,
-          (c.requires.short, subst (λ (xs : List CapturesAndEnds). EndWithin (length d) xs) (sym c.deref.ensures.value) within),
+          (c.requires.short, rw c.deref.ensures.value within),
         ),
       ),
     )
@@ -96,7 +96,7 @@ in_turn-loop-k-preserved t c =
     let d = c.args.doc.now in
     let k = c.loop-k.k in
     let u = tree_of c.at.result.now in
-    let next = subst (λ (xs : List CapturesAndEnds). Tells (HasFit c.in_ok-reached-2.reached.items) (Continued (HasFit xs) (Fit u d))) c.deref.ensures.value c.in_ok-reached-2.ensures in
+    let next = rw c.deref.ensures.value at c.in_ok-reached-2.ensures in
     goes_on (HasFit c.args.firsts.now) (Fit (cat_all (take k ts)) d) (Fit u d) (Fit (cat_all (take (k + 1) ts)) d) (λ i j m h. cat_more_split d ts k u i j m c.at.ensures h)
     (turn_apart d ts k u c.at.ensures c.requires.sequential) (λ i j m h. cat_more_join d ts k u i j m c.at.ensures h) c.loop-k.reached.items c.in_ok-reached-2.reached.items c.loop-k.invariant next
 
@@ -113,8 +113,7 @@ pub in_turn-returns : goal.in_turn-returns
 in_turn-returns t c =
     let ts = trees_of c.args.parts.now in
     let e : c.loop-k.k ≡ length ts = omega arith in
-    subst (λ (us : List Tree). Tells (HasFit c.loop-k.reached.items) (Continued (HasFit c.args.firsts.now) (Fit (cat_all us) c.args.doc.now)))
-    (ap (λ n. take n ts) e ∙ take-length ts) c.loop-k.invariant
+    rw (← (ap (λ n. take n ts) e ∙ take-length ts)) c.loop-k.invariant
 
 pub by_arms-go_on-requires : goal.by_arms-go_on-requires
 by_arms-go_on-requires t c =
@@ -126,7 +125,7 @@ by_arms-go_on-requires t c =
 pub by_arms-loop-k-init : goal.by_arms-loop-k-init
 by_arms-loop-k-init t c =
     let R = λ (v : Tree) (f : EndAndCaptures). Continued (HasFit c.args.firsts.now) (Fit v c.args.doc.now) f in
-    subst (λ (xs : List CapturesAndEnds). Tells (HasFit xs) (λ f. HasFit [] f ⊎ FromSome R [] f)) (sym c.new-all.ensures.items) (from_none R (HasFit []))
+    rw c.new-all.ensures.items (from_none R (HasFit []))
 
 pub by_arms-loop-k-preserved : goal.by_arms-loop-k-preserved
 by_arms-loop-k-preserved t c =
@@ -158,7 +157,7 @@ once_at_most-returns t c =
 pub captured-add_captured-requires : goal.captured-add_captured-requires
 captured-add_captured-requires t c =
     let b = c.first-item.result in
-    let here : Has c.args.firsts.now b = subst (λ (x : CapturesAndEnds). Has c.args.firsts.now x) (sym c.first-item.is)
+    let here : Has c.args.firsts.now b = rw c.first-item.is
     (Has-get_or c.args.firsts.now c.loop-first.first-index b c.loop-first-test.true) in
     let within : (k : ℕ) → Has b.1 k → k ≤ length c.args.doc.now = λ k h. c.requires.within (k, b.0) (b.1, here, h) in
     (omega arith, (c.requires.built, (c.requires.sequential.0, (c.requires.short, within))))
@@ -166,7 +165,7 @@ captured-add_captured-requires t c =
 pub captured-loop-first-init : goal.captured-loop-first-init
 captured-loop-first-init t c =
     let R = λ (b : CapturesAndEnds) (f : EndAndCaptures). FromSome (CapturedFrom c.args.name.now (Fit (tree_of c.args.sub.now) c.args.doc.now) b.0) b.1 f in
-    subst (λ (xs : List CapturesAndEnds). Tells (HasFit xs) (λ f. HasFit [] f ⊎ FromSome R [] f)) (sym c.new-all.ensures.items) (from_none R (HasFit []))
+    rw c.new-all.ensures.items (from_none R (HasFit []))
 
 pub captured-loop-first-preserved : goal.captured-loop-first-preserved
 captured-loop-first-preserved t c =
@@ -186,8 +185,8 @@ pub add_captured-go_on-requires : goal.add_captured-go_on-requires
 add_captured-go_on-requires t c =
     let places = c.ends-places.result.now in
     let place = get_or places c.loop-place.place-index 0 in
-    let le = c.requires.within place (subst (λ (xs : List ℕ). Has xs place) c.ends-places.ensures (Has-get_or places c.loop-place.place-index 0 c.loop-place-test.true)) in
-    let within = subst (λ (b : CapturesAndEnds). EndWithin (length c.args.doc.now) (b ∷ [])) (sym c.in_ok-at.ensures) (here_within place (length c.args.doc.now) le) in
+    let le = c.requires.within place (rw (← c.ends-places.ensures) (Has-get_or places c.loop-place.place-index 0 c.loop-place-test.true)) in
+    let within = rw (← c.in_ok-at.ensures) at (here_within place (length c.args.doc.now) le) in
     (omega arith, (c.requires.built, (c.requires.sequential, (c.requires.short, within))))
 
 pub add_captured-add_named-requires : goal.add_captured-add_named-requires
@@ -196,9 +195,9 @@ add_captured-add_named-requires t c =
     let d = c.args.doc.now in
     let places = c.ends-places.result.now in
     let place = get_or places c.loop-place.place-index 0 in
-    let le = c.requires.within place (subst (λ (xs : List ℕ). Has xs place) c.ends-places.ensures (Has-get_or places c.loop-place.place-index 0 c.loop-place-test.true)) in
-    let inner = subst (λ (b : CapturesAndEnds). Tells (HasFit c.in_ok-inner.inner.items) (Continued (HasFit (b ∷ [])) (Fit g d))) c.in_ok-at.ensures c.in_ok-inner.ensures in
-    λ f h. inner_within g d place MOST_DOCUMENT_BYTES c.in_ok-inner.inner.items le c.requires.short inner f (subst (λ (xs : List CapturesAndEnds). HasFit xs f) c.deref.ensures.value h)
+    let le = c.requires.within place (rw (← c.ends-places.ensures) (Has-get_or places c.loop-place.place-index 0 c.loop-place-test.true)) in
+    let inner = rw c.in_ok-at.ensures at c.in_ok-inner.ensures in
+    λ f h. inner_within g d place MOST_DOCUMENT_BYTES c.in_ok-inner.inner.items le c.requires.short inner f (rw (← c.deref.ensures.value) h)
 
 pub add_captured-loop-place-init : goal.add_captured-loop-place-init
 add_captured-loop-place-init t c = from_none (CapturedFrom c.args.name.now (Fit (tree_of c.args.sub.now) c.args.doc.now) c.args.first.now.0) (HasFit c.args.all.now.items)
@@ -213,9 +212,9 @@ add_captured-loop-place-preserved t c =
     let i = get_or places c.loop-place.place-index 0 in
     let inner = c.in_ok-inner.inner.items in
     let new = c.add_named.new.all.items in
-    let all = subst (λ (b : CapturesAndEnds). Tells (HasFit inner) (Continued (HasFit (b ∷ [])) (Fit g d))) c.in_ok-at.ensures c.in_ok-inner.ensures in
-    let added = subst (λ (m : Captures). Tells (HasFit new) (λ f. HasFit c.loop-place.all.items f ⊎ FromSome (CapturedAt x i m) c.deref.result.now f)) c.captures-2.ensures c.in_ok-add_named.ensures in
-    let added' = subst (λ (xs : List CapturesAndEnds). Tells (HasFit new) (λ f. HasFit c.loop-place.all.items f ⊎ FromSome (CapturedAt x i m0) xs f)) c.deref.ensures.value added in
+    let all = rw c.in_ok-at.ensures at c.in_ok-inner.ensures in
+    let added = rw c.captures-2.ensures at c.in_ok-add_named.ensures in
+    let added' = rw c.deref.ensures.value at added in
     from_more (CapturedFrom x (Fit g d) m0) (HasFit c.args.all.now.items) (HasFit c.loop-place.all.items) (HasFit new) places c.loop-place.place-index
     i 0 c.loop-place-test.true refl c.loop-place.invariant
     (tells_or (HasFit new) (HasFit c.loop-place.all.items) (FromSome (CapturedAt x i m0) inner) (CapturedFrom x (Fit g d) m0 i) added' (named_tells x (Fit g d) m0 i inner all))
@@ -225,4 +224,4 @@ add_captured-returns t c =
     let R = CapturedFrom c.args.name.now (Fit (tree_of c.args.sub.now) c.args.doc.now) c.args.first.now.0 in
     let all = from_all R (HasFit c.args.all.now.items) (HasFit c.loop-place.all.items) c.ends-places.result.now c.loop-place.place-index
     c.loop-place.auto.place-index-end c.loop-place-test.false c.loop-place.invariant in
-    subst (λ (xs : List ℕ). Tells (HasFit c.loop-place.all.items) (λ f. HasFit c.args.all.now.items f ⊎ FromSome R xs f)) c.ends-places.ensures all
+    rw (← c.ends-places.ensures) all

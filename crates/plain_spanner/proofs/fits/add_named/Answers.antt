@@ -8,7 +8,7 @@ use Rattle.plain_spanner.proofs.fits.add_named.Goals as goal
 pub add_spans-requires : goal.add_spans-requires
 add_spans-requires c = λ j h.
     let b = c.branch-item.result in
-    let here : Has c.args.inner.now b = subst (λ (x : CapturesAndEnds). Has c.args.inner.now x) (sym c.branch-item.is)
+    let here : Has c.args.inner.now b = rw c.branch-item.is
     (Has-get_or c.args.inner.now c.loop-branch.branch-index b c.loop-branch-test.true) in
     c.requires (j, b.0) (b.1, here, h)
 

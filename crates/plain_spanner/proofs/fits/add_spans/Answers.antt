@@ -11,7 +11,7 @@ pub overflow_cast-place : goal.overflow_cast-place
 overflow_cast-place c =
     let ends = c.ends-ends.result.now in
     let here = Has-get_or ends c.loop-end.end-index 0 c.loop-end-test.true in
-    let r = c.requires (get_or ends c.loop-end.end-index 0) (subst (λ (xs : List ℕ). Has xs (get_or ends c.loop-end.end-index 0)) c.ends-ends.ensures here) in
+    let r = c.requires (get_or ends c.loop-end.end-index 0) (rw (← c.ends-ends.ensures) here) in
     let lo = r.0 in
     let hi = r.1 in
     omega arith
@@ -20,7 +20,7 @@ pub overflow_cast-end : goal.overflow_cast-end
 overflow_cast-end c =
     let ends = c.ends-ends.result.now in
     let here = Has-get_or ends c.loop-end.end-index 0 c.loop-end-test.true in
-    let r = c.requires (get_or ends c.loop-end.end-index 0) (subst (λ (xs : List ℕ). Has xs (get_or ends c.loop-end.end-index 0)) c.ends-ends.ensures here) in
+    let r = c.requires (get_or ends c.loop-end.end-index 0) (rw (← c.ends-ends.ensures) here) in
     let lo = r.0 in
     let hi = r.1 in
     omega arith
@@ -29,7 +29,7 @@ pub new-span-requires : goal.new-span-requires
 new-span-requires c =
     let ends = c.ends-ends.result.now in
     let here = Has-get_or ends c.loop-end.end-index 0 c.loop-end-test.true in
-    let r = c.requires (get_or ends c.loop-end.end-index 0) (subst (λ (xs : List ℕ). Has xs (get_or ends c.loop-end.end-index 0)) c.ends-ends.ensures here) in
+    let r = c.requires (get_or ends c.loop-end.end-index 0) (rw (← c.ends-ends.ensures) here) in
     let lo = r.0 in
     let hi = r.1 in
     omega arith
@@ -59,4 +59,4 @@ returns c =
     let R = CapturedTo c.args.name.now c.args.place c.args.captures.now c.args.inner.now.0 in
     let all = from_all R (HasFit c.args.all.now.items) (HasFit c.loop-end.all.items) c.ends-ends.result.now c.loop-end.end-index
     c.loop-end.auto.end-index-end c.loop-end-test.false c.loop-end.invariant in
-    subst (λ (xs : List ℕ). Tells (HasFit c.loop-end.all.items) (λ f. HasFit c.args.all.now.items f ⊎ FromSome R xs f)) c.ends-ends.ensures all
+    rw (← c.ends-ends.ensures) all

@@ -13,14 +13,14 @@ use Rattle.plain_spanner.proofs.fits.go_on_bare.Goals as goal
 pub reached_from-requires-clause-within : goal.reached_from-requires-clause-within
 reached_from-requires-clause-within c = λ k h.
     let b = c.first-item.result in
-    let here : Has c.args.firsts.now b = subst (λ (x : CapturesAndEnds). Has c.args.firsts.now x) (sym c.first-item.is)
+    let here : Has c.args.firsts.now b = rw c.first-item.is
     (Has-get_or c.args.firsts.now c.loop-first.first-index b c.loop-first-test.true) in
-    c.requires.within (k, b.0) (b.1, here, subst (λ (xs : List ℕ). Has xs k) c.ends-places.ensures h)
+    c.requires.within (k, b.0) (b.1, here, rw (← c.ends-places.ensures) h)
 
 pub loop-first-init : goal.loop-first-init
 loop-first-init c =
     let R = GoesFrom (Fit (tree_of c.args.formula.now) c.args.doc.now) in
-    subst (λ (xs : List CapturesAndEnds). Tells (HasFit xs) (λ f. HasFit [] f ⊎ FromSome R [] f)) (sym c.new-all.ensures.items) (from_none R (HasFit []))
+    rw c.new-all.ensures.items (from_none R (HasFit []))
 
 pub loop-first-preserved : goal.loop-first-preserved
 loop-first-preserved c =
@@ -28,9 +28,8 @@ loop-first-preserved c =
     let b = c.first-item.result in
     let later = c.in_ok-later.later.items in
     let bare = λ (i j : ℕ) (m : Captures) (h : Fit (tree_of c.args.formula.now) c.args.doc.now i j m). fit_no_vars (tree_of c.args.formula.now) c.args.doc.now i j m c.requires.bare h in
-    let leads = subst (λ (xs : List ℕ). Tells (Has later) (LeadsOn P xs)) c.ends-places.ensures c.in_ok-later.ensures in
-    let added = subst (λ (m : Captures). Tells (HasFit c.add_branch.new.all.items)
-    (λ f. HasFit c.loop-first.all.items f ⊎ HasFit ((m, later) ∷ []) f)) c.captures-2.ensures c.in_ok-add_branch.ensures in
+    let leads = rw c.ends-places.ensures at c.in_ok-later.ensures in
+    let added = rw c.captures-2.ensures at c.in_ok-add_branch.ensures in
     from_more (GoesFrom P) (HasFit []) (HasFit c.loop-first.all.items) (HasFit c.add_branch.new.all.items) c.args.firsts.now c.loop-first.first-index
     b b c.loop-first-test.true c.first-item.is c.loop-first.invariant
     (tells_or (HasFit c.add_branch.new.all.items) (HasFit c.loop-first.all.items) (HasFit ((b.0, later) ∷ [])) (GoesFrom P b) added (bare_branch P bare b later leads))

@@ -39,7 +39,7 @@ loop-place-preserved c =
     let added = tells_pushed (R p) c.loop-place.rows.items c.both.result
     (λ r h. c.both.ensures ∙ joined_once c.args.names.now c.args.left_names.now c.args.right.now.names c.args.row.now rights p b r at h) (b, at, c.both.ensures) in
     from_more R (Has c.args.rows.now.items) (Has c.loop-place.rows.items) (Has c.push.new.self.items) c.args.places.now c.loop-place.place-index p 0 c.loop-place-test.true refl c.loop-place.invariant
-    (subst (λ (xs : List SpanRow). Tells (Has xs) (λ r. Has c.loop-place.rows.items r ⊎ R p r)) (sym c.in_ok-push.ensures.items) added)
+    (rw c.in_ok-push.ensures.items added)
 
 pub returns : goal.returns
 returns c =

@@ -11,8 +11,8 @@ use Rattle.plain_spanner.proofs.join.add_joins.Goals as goal
 
 pub add_joined-requires-clause-within : goal.add_joined-requires-clause-within
 add_joined-requires-clause-within c = λ p h.
-    let here = subst (λ (xs : List ℕ). Has xs p) c.deref.ensures.value h in
-    let place = (c.requires.places c.row_with-key.result p).0 (subst (λ (o : Option (Vec ℕ Global)). IsSomeAnd o (λ v. Has v.items p)) c.in-Some.ensures.value here) in
+    let here = rw c.deref.ensures.value at h in
+    let place = (c.requires.places c.row_with-key.result p).0 (rw (← c.in-Some.ensures.value) here) in
     slice_get_within c.args.right.now.rows.items p place.0 place.1
 
 pub returns-in_default : goal.returns-in_default
@@ -22,9 +22,9 @@ returns-in_default c =
     let shared = c.args.keyed.now.key_names in
     tells_unchanged (Has c.args.rows.now.items) (JoinsRow c.args.names.now c.args.left_names.now W rights c.args.row.now)
     (joins_nothing c.args.names.now c.args.left_names.now W shared rights c.args.row.now c.requires.shared (λ p place.
-    let key = subst (λ (k : SpanRow). HasKeyAt W shared rights k p) (sym c.row_with-key.ensures) place in
+    let key = rw (← c.row_with-key.ensures) at place in
     let there = (c.requires.places c.row_with-key.result p).1 key in
-    subst (λ (o : Option (Vec ℕ Global)). IsSomeAnd o (λ v. Has v.items p)) (sym c.in_default.ensures.value) there))
+    rw (← c.in_default.ensures.value) at there))
 
 pub returns : goal.returns
 returns c =
@@ -39,9 +39,8 @@ returns c =
     let before = Has c.args.rows.now.items in
     let after = Has c.add_joined.new.rows.items in
     let found : (p : ℕ) → Has places p ↔ HasKeyAt W shared rights (row_over V shared a) p = λ p.
-    subst (λ (k : SpanRow). Has places p ↔ HasKeyAt W shared rights k p) c.row_with-key.ensures
-    (subst (λ (o : Option (Vec ℕ Global)). IsSomeAnd o (λ v. Has v.items p) ↔ HasKeyAt W shared rights key p) (sym c.in-Some.ensures.value)
-    (c.requires.places key p)) in
-    let added = subst (λ (xs : List ℕ). Tells after (λ r. before r ⊎ FromSome (JoinsWith names V W a rights) xs r)) c.deref.ensures.value c.in_ok-add_joined.ensures in
+    rw (← c.row_with-key.ensures)
+    (rw (← c.in-Some.ensures.value) at (c.requires.places key p)) in
+    let added = rw c.deref.ensures.value at c.in_ok-add_joined.ensures in
     tells_or after before (FromSome (JoinsWith names V W a rights) places) (JoinsRow names V W rights a) added
     (joins_found names V W shared rights a places c.requires.shared found)

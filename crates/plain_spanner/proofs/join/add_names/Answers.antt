@@ -21,4 +21,4 @@ loop-k-preserved c =
 pub returns : goal.returns
 returns c =
     let e : c.loop-k.k ≡ length c.args.names.now = omega arith in
-    subst (λ (ns : List VarName). Adds c.args.into.now (Has ns) c.loop-k.into) (ap (λ n. take n c.args.names.now) e ∙ take-length c.args.names.now) c.loop-k.invariant
+    rw (← (ap (λ n. take n c.args.names.now) e ∙ take-length c.args.names.now)) c.loop-k.invariant

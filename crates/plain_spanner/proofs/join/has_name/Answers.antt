@@ -6,4 +6,4 @@ use Rattle.plain_spanner.proofs.join.has_name.Goals as goal
 
 pub returns : goal.returns
 returns c =
-    subst (λ (b : Bool). IsTrue b ↔ Has c.args.names.now c.args.name.now) (sym c.is_some.ensures) (found_has c.args.names.now c.args.name.now c.find.result c.find.ensures.some c.find.ensures.none)
+    rw c.is_some.ensures (found_has c.args.names.now c.args.name.now c.find.result c.find.ensures.some c.find.ensures.none)

@@ -16,7 +16,7 @@ add_name-requires c =
     (λ x h. Has-take left c.loop-k.k x ((c.loop-k.invariant x).0 h).0)
 
 pub loop-k-init : goal.loop-k-init
-loop-k-init c = λ x. (λ h. absurd (subst (λ (ns : List VarName). Has ns x) c.empty-shared.ensures h), λ h. absurd h.0)
+loop-k-init c = λ x. (λ h. absurd (rw c.empty-shared.ensures at h), λ h. absurd h.0)
 
 pub loop-k-preserved : goal.loop-k-preserved
 loop-k-preserved c =
@@ -25,8 +25,8 @@ loop-k-preserved c =
     let y = c.at-name.result.now in
     elim c.if-has_name.branch [
       | then-has_name w ↦ shared_more left right c.loop-k.shared c.if-has_name.shared c.loop-k.k y c.at-name.ensures.value (c.has_name.ensures.0 w.if-has_name.true) c.loop-k.invariant
-          (subst (λ (ns : List VarName). Adds c.loop-k.shared (λ x. y ≡ x) ns) (sym w.shared-is) w.add_name.ensures)
-      | else-has_name w ↦ subst (λ (ns : List VarName). (x : VarName) → Has ns x ↔ (Has (take (c.loop-k.k + 1) left) x × Has right x)) (sym w.shared-is)
+          (rw w.shared-is w.add_name.ensures)
+      | else-has_name w ↦ rw w.shared-is
           (shared_same left right c.loop-k.shared c.loop-k.k y c.at-name.ensures.value (λ h. false≢true (sym w.if-has_name.false ∙ c.has_name.ensures.1 h)) c.loop-k.invariant)
     ]
 
@@ -34,4 +34,4 @@ pub returns : goal.returns
 returns c =
     let left = c.args.left.now in
     let e : c.loop-k.k ≡ length left = omega arith in
-    subst (λ (ns : List VarName). (x : VarName) → Has c.loop-k.shared x ↔ (Has ns x × Has c.args.right.now x)) (ap (λ n. take n left) e ∙ take-length left) c.loop-k.invariant
+    rw (← (ap (λ n. take n left) e ∙ take-length left)) c.loop-k.invariant

@@ -21,7 +21,7 @@ row_with-key-requires c =
 
 pub loop-place-init : goal.loop-place-init
 loop-place-init c = λ q p. (
-  λ h. absurd (subst (λ (es : List (SpanRow × Vec ℕ Global)). IsSomeAnd (lookup (is_at (row_cmp q)) es) (λ v. Has v.items p)) c.new-places.ensures.empty h),
+  λ h. absurd (rw c.new-places.ensures.empty at h),
   λ h. let l = h.0 in absurd (omega arith),
 )
 

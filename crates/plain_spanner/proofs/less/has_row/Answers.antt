@@ -14,8 +14,8 @@ returns-then-eq c =
     let rows = c.args.rows.now in
     let x = c.other-item.result in
     let same : x ≡ c.args.row.now = row_eq_exact x c.args.row.now (sym c.eq.ensures ∙ c.if-eq.true) in
-    let here : Has rows x = subst (λ (y : SpanRow). Has rows y) (sym c.other-item.is) (Has-get_or rows c.loop-other.other-index x c.loop-other-test.true) in
-    ((λ t. subst (λ (y : SpanRow). Has rows y) same here), (λ h. refl))
+    let here : Has rows x = rw (← c.other-item.is) at (Has-get_or rows c.loop-other.other-index x c.loop-other-test.true) in
+    ((λ t. rw same at here), (λ h. refl))
 
 pub loop-other-preserved : goal.loop-other-preserved
 loop-other-preserved c =

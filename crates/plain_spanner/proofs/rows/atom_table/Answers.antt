@@ -14,11 +14,11 @@ use Rattle.plain_spanner.proofs.rows.atom_table.Goals as goal
 pub go_on-requires-clause-within : goal.go_on-requires-clause-within
 go_on-requires-clause-within c =
     let o = c.places-from-end.ensures.only c.loop-from.from c.loop-from-test.true in
-    subst (λ (b : CapturesAndEnds). EndWithin (length c.args.doc.now) (b ∷ [])) (sym c.in_ok-at.ensures) (here_within c.loop-from.from (length c.args.doc.now) o.0)
+    rw c.in_ok-at.ensures (here_within c.loop-from.from (length c.args.doc.now) o.0)
 
 pub loop-from-init : goal.loop-from-init
 loop-from-init c =
-    subst (λ (xs : List SpanRow). Tells (Has xs) (IsRowOf (FitsBefore 0 c.args.atom.now.to_end (tree_of c.args.atom.now.formula) c.args.doc.now) c.gather-all.new.into)) (sym c.new-rows.ensures.items)
+    rw c.new-rows.ensures.items
     (places_none c.args.atom.now.to_end (tree_of c.args.atom.now.formula) c.args.doc.now c.gather-all.new.into)
 
 pub loop-from-preserved : goal.loop-from-preserved
@@ -28,9 +28,8 @@ loop-from-preserved c =
     let to_end = c.args.atom.now.to_end in
     let names = c.gather-all.new.into in
     let found = c.in_ok-found.found.items in
-    let all = subst (λ (b : CapturesAndEnds). Tells (HasFit found) (Continued (HasFit (b ∷ [])) (Fit g d))) c.in_ok-at.ensures c.in_ok-found.ensures in
-    let added = subst (λ (xs : List CapturesAndEnds). Tells (Has c.add_rows.new.rows.items)
-    (λ r. Has c.loop-from.rows.items r ⊎ FromSome (IsRowOfFits names to_end (length d)) xs r)) c.deref.ensures.value c.in_ok-add_rows.ensures in
+    let all = rw c.in_ok-at.ensures at c.in_ok-found.ensures in
+    let added = rw c.deref.ensures.value at c.in_ok-add_rows.ensures in
     places_more to_end g d names c.loop-from.from c.loop-from.rows.items c.add_rows.new.rows.items found c.loop-from.invariant all added
 
 pub sort_once-requires : goal.sort_once-requires
@@ -44,7 +43,7 @@ returns c =
     let names = c.gather-all.new.into in
     let e : c.loop-from.from ≡ c.places-from-end.result = omega arith in
     let listed = places_all atom.to_end g d names atom.from_start c.places-from-end.result (Has c.loop-from.rows.items) c.places-from-end.ensures.only c.places-from-end.ensures.enough
-    (subst (λ n. Tells (Has c.loop-from.rows.items) (IsRowOf (FitsBefore n atom.to_end g d) names)) e c.loop-from.invariant) in
+    (rw e at c.loop-from.invariant) in
     record {
       ascending = c.len.ensures.ascending;
       named = λ x. (

@@ -26,4 +26,4 @@ pub returns : goal.returns
 returns c =
     let e : c.loop-known.known-index ≡ length c.args.ends.now = omega arith in
     let whole = ap (λ n. take n c.args.ends.now) e ∙ take-length c.args.ends.now in
-    (λ t. absurd (false≢true t), λ w. absurd (c.loop-known.invariant w.0 (subst (λ (xs : List ℕ). Has xs w.0) (sym whole) w.1) w.2))
+    (λ t. absurd (false≢true t), λ w. absurd (c.loop-known.invariant w.0 (rw whole w.1) w.2))

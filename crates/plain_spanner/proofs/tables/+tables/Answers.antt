@@ -49,7 +49,7 @@ pub expr_table-returns-in-Atom : goal.expr_table-returns-in-Atom
 expr_table-returns-in-Atom t c =
     let q = query_of c.args.query.now in
     let e = ap expr_of c.in-Atom.is ∙ expr_of-Atom c.in-Atom.atom in
-    subst (λ (w : ExprTree). IfOk c.atom_table.result (λ t. IsTableOf q c.args.doc.now (length c.args.tables.now) w t.names t.rows.items)) (sym e) c.atom_table.ensures
+    rw e c.atom_table.ensures
 
 pub expr_table-returns-in-Named : goal.expr_table-returns-in-Named
 expr_table-returns-in-Named t c =
@@ -62,10 +62,10 @@ expr_table-returns-in-Named t c =
     let within : k < n = (subst (IsAsked q n) e c.requires.asked).sound_expr in
     let at : slice_get c.args.tables.now k ≡ Some u = slice_get-get_or c.args.tables.now k u within ∙ ap Some (sym c.index-tables-k.is) in
     let known = c.requires.known k u at in
-    subst (λ (w : ExprTree). IfOk c.over.result (λ t. IsTableOf q d n w t.names t.rows.items)) (sym e)
+    rw e
     (ok_both c.over.result (λ (t : Table). t.names ≡ u.names)
     (λ (t : Table). Tells (Has t.rows.items) (FromSome (IsRowOver u.names u.names) u.rows.items)) (λ (t : Table). IsTableOf q d n (named k) t.names t.rows.items)
-    (λ t same rows. subst (λ (ns : List VarName). IsTableOf q d n (named k) ns t.rows.items) (sym same)
+    (λ t same rows. rw same
     (record { ascending = known.ascending; named = known.named; listed = kept_all (answers_of_lets q.lets d n k) u.names u.rows.items (Has t.rows.items) known.listed rows }))
     c.over.ensures.names c.over.ensures.rows)
 
@@ -84,12 +84,12 @@ expr_table-join_table-requires t c =
 pub expr_table-returns-in-Union : goal.expr_table-returns-in-Union
 expr_table-returns-in-Union t c =
     let e = ap expr_of c.in-Union.is ∙ expr_of-Union c.in-Union.parts in
-    subst (λ (w : ExprTree). IfOk c.union_table.result (λ t. IsTableOf (query_of c.args.query.now) c.args.doc.now (length c.args.tables.now) w t.names t.rows.items)) (sym e) c.union_table.ensures
+    rw e c.union_table.ensures
 
 pub expr_table-returns-in-Join : goal.expr_table-returns-in-Join
 expr_table-returns-in-Join t c =
     let e = ap expr_of c.in-Join.is ∙ expr_of-Join c.in-Join.parts in
-    subst (λ (w : ExprTree). IfOk c.join_table.result (λ t. IsTableOf (query_of c.args.query.now) c.args.doc.now (length c.args.tables.now) w t.names t.rows.items)) (sym e) c.join_table.ensures
+    rw e c.join_table.ensures
 
 pub expr_table-expr_table-requires : goal.expr_table-expr_table-requires
 expr_table-expr_table-requires t c =
@@ -119,10 +119,10 @@ expr_table-returns-in_ok-inner-in-Project t c =
     let u = c.in_ok-inner-in-Project.inner in
     let known = c.in_ok-inner-in-Project.ensures in
     let in_names = λ (x : VarName) (h : Has names x). (known.named x).1 (a.sound_expr.1 x h).0 in
-    subst (λ (w : ExprTree). IfOk c.over-in-Project.result (λ t. IsTableOf q d n w t.names t.rows.items)) (sym e)
+    rw e
     (ok_both c.over-in-Project.result (λ (t : Table). t.names ≡ names)
     (λ (t : Table). Tells (Has t.rows.items) (FromSome (IsRowOver u.names names) u.rows.items)) (λ (t : Table). IsTableOf q d n (project names g) t.names t.rows.items)
-    (λ t same rows. subst (λ (ns : List VarName). IsTableOf q d n (project names g) ns t.rows.items) (sym same)
+    (λ t same rows. rw same
     (record {
       ascending = c.over-in-Project.ensures.ascending;
       named = λ x. (λ h. h, λ h. h);
@@ -136,8 +136,8 @@ union_table-loop-k-init t c =
     let d = c.args.doc.now in
     let n = length c.args.tables.now in
     let u = c.none-all.ensures in
-    subst (λ (ns : List VarName). IsTableOf q d n (union_all []) ns c.none-all.result.rows.items) (sym u.names)
-    (subst (λ (rs : List SpanRow). IsTableOf q d n (union_all []) [] rs) (sym u.rows) (none_table q d n))
+    rw u.names
+    (rw u.rows (none_table q d n))
 
 pub union_table-expr_table-requires : goal.union_table-expr_table-requires
 union_table-expr_table-requires t c =
@@ -177,8 +177,7 @@ pub union_table-returns : goal.union_table-returns
 union_table-returns t c =
     let es = exprs_of c.args.parts.now in
     let e : c.loop-k.k ≡ length es = omega arith in
-    subst (λ (gs : List ExprTree). IsTableOf (query_of c.args.query.now) c.args.doc.now (length c.args.tables.now) (union_all gs) c.loop-k.all.names
-    c.loop-k.all.rows.items) (ap (λ k. take k es) e ∙ take-length es) c.loop-k.invariant
+    rw (← (ap (λ k. take k es) e ∙ take-length es)) c.loop-k.invariant
 
 pub join_table-loop-k-init : goal.join_table-loop-k-init
 join_table-loop-k-init t c =
@@ -186,8 +185,8 @@ join_table-loop-k-init t c =
     let d = c.args.doc.now in
     let n = length c.args.tables.now in
     let u = c.in_ok-all.ensures in
-    subst (λ (ns : List VarName). IsTableOf q d n (join_all []) ns c.in_ok-all.all.rows.items) (sym u.0)
-    (subst (λ (rs : List SpanRow). IsTableOf q d n (join_all []) [] rs) (sym u.1) (unit_table q d n))
+    rw u.0
+    (rw u.1 (unit_table q d n))
 
 pub join_table-expr_table-requires : goal.join_table-expr_table-requires
 join_table-expr_table-requires t c =
@@ -227,8 +226,7 @@ pub join_table-returns : goal.join_table-returns
 join_table-returns t c =
     let es = exprs_of c.args.parts.now in
     let e : c.loop-k.k ≡ length es = omega arith in
-    subst (λ (gs : List ExprTree). IsTableOf (query_of c.args.query.now) c.args.doc.now (length c.args.tables.now) (join_all gs) c.loop-k.all.names
-    c.loop-k.all.rows.items) (ap (λ k. take k es) e ∙ take-length es) c.loop-k.invariant
+    rw (← (ap (λ k. take k es) e ∙ take-length es)) c.loop-k.invariant
 
 pub expr_table-less-requires-clause-whole : goal.expr_table-less-requires-clause-whole
 expr_table-less-requires-clause-whole t c =
@@ -250,9 +248,9 @@ expr_table-returns-in_ok-second-in-Minus t c =
     let a = subst (IsAsked q n) e c.requires.asked in
     let u = c.in_ok-first-in-Minus.first in
     let v = c.in_ok-second-in-Minus.second in
-    subst (λ (w : ExprTree). IfOk c.less.result (λ t. IsTableOf q d n w t.names t.rows.items)) (sym e)
+    rw e
     (ok_both c.less.result (λ (t : Table). t.names ≡ u.names) (λ (t : Table). Tells (Has t.rows.items) (IsLeft u.rows.items v.rows.items))
     (λ (t : Table). IsTableOf q d n (minus f g) t.names t.rows.items)
-    (λ t same rows. subst (λ (ns : List VarName). IsTableOf q d n (minus f g) ns t.rows.items) (sym same)
+    (λ t same rows. rw same
     (left_table q d n f g u.names v.names u.rows.items v.rows.items t.rows.items c.in_ok-first-in-Minus.ensures c.in_ok-second-in-Minus.ensures a.sound_expr.2 rows))
     c.less.ensures.names c.less.ensures.rows)

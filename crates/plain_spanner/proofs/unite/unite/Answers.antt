@@ -10,7 +10,7 @@ use Rattle.plain_spanner.proofs.RowLaws.{row_eq_exact}
 use Rattle.plain_spanner.proofs.unite.unite.Goals as goal
 
 pub add_names-requires : goal.add_names-requires
-add_names-requires c = subst (λ (ns : List VarName). HaveRoom ns (Has c.args.right.now.names)) (sym c.copy-names.ensures) c.requires.room
+add_names-requires c = rw c.copy-names.ensures c.requires.room
 
 pub sort_once-requires : goal.sort_once-requires
 sort_once-requires c = record { exact = λ x y e. row_eq_exact x y e }
@@ -25,10 +25,10 @@ returns c =
     let both = tells_both c.in_ok-all.all.rows.items c.in_ok-others.others.rows.items c.append.new.self.items (FromSome (IsRowOver V names) lefts) (FromSome (IsRowOver W names) rights)
     c.in_ok-append.ensures.items c.in_ok-all.ensures.rows c.in_ok-others.ensures.rows in
     let is : c.in_ok-all.all.names ≡ names = c.in_ok-all.ensures.names in
-    let added = subst (λ (ns : List VarName). Adds ns (Has W) names) c.copy-names.ensures c.add_names.ensures in
+    let added = rw c.copy-names.ensures at c.add_names.ensures in
     let rows = tells_through (Has c.sort_once.new.values.items) (Has c.append.new.self.items) (IsUnited names V W lefts rights) c.sort_once.ensures.adds_none c.sort_once.ensures.keeps both in
     record {
       names = subst (Adds V (Has W)) (sym is) added;
       ascending = subst Ascending (sym is) c.over.ensures.ascending;
-      rows = subst (λ (ns : List VarName). Tells (Has c.sort_once.new.values.items) (IsUnited ns V W lefts rights)) (sym is) rows;
+      rows = rw is rows;
     }

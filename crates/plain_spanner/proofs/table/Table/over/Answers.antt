@@ -12,13 +12,13 @@ pub row_with-requires : goal.row_with-requires
 row_with-requires c =
     let rows = c.deref-row-items.result.now in
     let r = c.row-item.result in
-    let here : Has rows r = subst (λ (y : SpanRow). Has rows y) (sym c.row-item.is) (Has-get_or rows c.loop-row.row-index r c.loop-row-test.true) in
-    c.requires r (subst (λ (xs : List SpanRow). Has xs r) c.deref-row-items.ensures.value here)
+    let here : Has rows r = rw c.row-item.is (Has-get_or rows c.loop-row.row-index r c.loop-row-test.true) in
+    c.requires r (rw (← c.deref-row-items.ensures.value) here)
 
 pub loop-row-init : goal.loop-row-init
 loop-row-init c =
     let R = IsRowOver c.args.self.now.names c.args.names.now in
-    subst (λ (xs : List SpanRow). Tells (Has xs) (λ r. Has [] r ⊎ FromSome R [] r)) (sym c.new-rows.ensures.items) (from_none R (Has []))
+    rw c.new-rows.ensures.items (from_none R (Has []))
 
 pub loop-row-preserved : goal.loop-row-preserved
 loop-row-preserved c =
@@ -26,11 +26,11 @@ loop-row-preserved c =
     let rows = c.deref-row-items.result.now in
     let a = c.row-item.result in
     let R = IsRowOver c.args.self.now.names c.args.names.now in
-    let within = subst (λ (xs : List SpanRow). c.loop-row.row-index < length xs) c.deref-row-items.ensures.value c.loop-row-test.true in
+    let within = rw c.deref-row-items.ensures.value at c.loop-row-test.true in
     let is = c.row-item.is ∙ ap (λ (xs : List SpanRow). get_or xs c.loop-row.row-index a) c.deref-row-items.ensures.value in
     let added = tells_pushed (R a) c.loop-row.rows.items c.row_with.result (λ y e. c.row_with.ensures ∙ sym e) c.row_with.ensures in
     from_more R (Has []) (Has c.loop-row.rows.items) (Has c.push.new.self.items) old c.loop-row.row-index a a within is c.loop-row.invariant
-    (subst (λ (xs : List SpanRow). Tells (Has xs) (λ y. Has c.loop-row.rows.items y ⊎ R a y)) (sym c.in_ok-push.ensures.items) added)
+    (rw c.in_ok-push.ensures.items added)
 
 pub sort_once-requires : goal.sort_once-requires
 sort_once-requires c = record { exact = λ x y e. row_eq_exact x y e }
