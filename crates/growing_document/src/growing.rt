@@ -1,9 +1,9 @@
 //! Documents, and what is held of reading them: the reading is laid down between two calls, so that it stands beside its automaton.
 //!
 //! The methods hand their fields on to functions, so that what is held may be taken out and put back while the automaton is lent.
-ghost use Rattle.std.specs.Prelude.{◌≡◌, ℕ, ◌+◌, ◌*◌, ◌^◌, ◌<◌, ◌≤◌, [], true, false, length, IfOk, IfErr, IsErrOf, OnOk, OnErr};
+ghost use Rattle.std.specs.Prelude.{◌≡◌, ℕ, ◌+◌, ◌*◌, ◌^◌, ◌<◌, ◌≤◌, ◌++◌, [], true, false, None, Some, length, IfOk, IfErr, IsErrOf, OnOk, OnErr};
 ghost use Rattle.marked_automaton.specs.Automaton.{size};
-ghost use Rattle.growing_document.specs.declared.fault.GrowFault.TheVariants.{Spent, TooLong};
+ghost use Rattle.growing_document.specs.declared.fault.GrowFault.TheVariants.{OutOfMemory as WantOfMemory, Spent, TooLong};
 ghost use Rattle.growing_document.specs.Faults.{IsAppendFault, IsRowsFault, IsWeightFault, left_by};
 ghost use Rattle.growing_document.specs.Grown.{AcceptsRows, AreRowsRead, IsAppended, HasAskedRows, IsGrown, at_start, charge, credit, rows_steps};
 ghost use Rattle.growing_document.specs.Inside.{IsHeldReading, seen};
@@ -108,6 +108,30 @@ impl Growing {
         )
     }
 
+    /// Does what `append` does, with a piece that becomes the document where that is empty, so that its bytes are not copied.
+    pub fn append_vec<L: Ledger>(
+        &mut self,
+        piece: Vec<u8>,
+        steps: &mut Steps<L>,
+    ) -> Result<(), GrowFault>
+        ensures appended { OnOk result (IsAppended self.old piece.items self.new) }
+        ensures steps { OnOk result (steps.new + credit self.new + charge self.old ≤ steps.old + credit self.old + charge self.new) }
+        ensures spent { self.old.spent ≡ true → IsErrOf result Spent }
+        ensures long { self.old.spent ≡ false → 2 ^ 28 < length self.old.document + length piece.items →
+            IsErrOf result (TooLong (length self.old.document + length piece.items)) }
+        ensures fault { IfErr result (IsAppendFault self.old piece.items) }
+        ensures left { IfErr result (λ e. self.new ≡ left_by self.old e) }
+    {
+        append_vec_to(
+            &self.automaton,
+            self.limit,
+            &mut self.document,
+            &mut self.reading,
+            piece,
+            steps,
+        )
+    }
+
     /// The document: the pieces of all appends that answered Ok.
     pub fn document(&self) -> &[u8]
         ensures { result.now ≡ self.now.document }
@@ -174,6 +198,95 @@ fn append_to<L: Ledger>(
     ensures left { IfErr result (λ e. seen automaton.now limit document.new.items reading.new ≡
         left_by (seen automaton.now limit document.old.items reading.old) e) }
 {
+    let after = match read_piece(automaton, limit, document, reading, piece, steps) {
+        Ok(after) => after,
+        Err(fault) => return Err(fault),
+    };
+    if let Err(_full) = document.extend_from_slice(piece) {
+        return Err(GrowFault::OutOfMemory);
+    }
+    *reading = Some(after);
+    Ok(())
+}
+
+/// The same, with a piece that becomes the document where that is empty.
+fn append_vec_to<L: Ledger>(
+    automaton: &Automaton,
+    limit: u64,
+    document: &mut Vec<u8>,
+    reading: &mut Option<Laid>,
+    piece: Vec<u8>,
+    steps: &mut Steps<L>,
+) -> Result<(), GrowFault>
+    requires { IsHeldReading automaton.now limit document.old.items reading.old }
+    ensures inside { IsHeldReading automaton.now limit document.new.items reading.new }
+    ensures appended { OnOk result
+        (IsAppended (seen automaton.now limit document.old.items reading.old) piece.items
+        (seen automaton.now limit document.new.items reading.new)) }
+    ensures steps { OnOk result (steps.new + credit (seen automaton.now limit document.new.items reading.new) + charge
+        (seen automaton.now limit document.old.items reading.old) ≤ steps.old + credit
+        (seen automaton.now limit document.old.items reading.old) + charge (seen automaton.now limit document.new.items reading.new)) }
+    ensures spent { (seen automaton.now limit document.old.items reading.old).spent ≡ true → IsErrOf result Spent }
+    ensures long { (seen automaton.now limit document.old.items reading.old).spent ≡ false →
+        2 ^ 28 < length document.old.items + length piece.items →
+        IsErrOf result (TooLong (length document.old.items + length piece.items)) }
+    ensures fault { IfErr result (IsAppendFault (seen automaton.now limit document.old.items reading.old) piece.items) }
+    ensures left { IfErr result (λ e. seen automaton.now limit document.new.items reading.new ≡
+        left_by (seen automaton.now limit document.old.items reading.old) e) }
+{
+    let after = match read_piece(automaton, limit, document, reading, &piece, steps) {
+        Ok(after) => after,
+        Err(fault) => return Err(fault),
+    };
+    if let Err(fault) = keep(document, piece) {
+        return Err(fault);
+    }
+    *reading = Some(after);
+    Ok(())
+}
+
+/// Puts a piece behind the document; it becomes the document where that is empty.
+fn keep(document: &mut Vec<u8>, piece: Vec<u8>) -> Result<(), GrowFault>
+    ensures kept { OnOk result (document.new.items ≡ document.old.items ++ piece.items) }
+    ensures same { OnErr result (document.new.items ≡ document.old.items) }
+    ensures fault { IfErr result (λ e. e ≡ WantOfMemory) }
+{
+    if document.is_empty() {
+        *document = piece;
+        return Ok(());
+    }
+    match document.extend_from_slice(&piece) {
+        Ok(()) => Ok(()),
+        Err(_) => Err(GrowFault::OutOfMemory),
+    }
+}
+
+/// Reads a piece behind the document, and gives the reading, which is taken away until the piece stands there.
+fn read_piece<L: Ledger>(
+    automaton: &Automaton,
+    limit: u64,
+    document: &Vec<u8>,
+    reading: &mut Option<Laid>,
+    piece: &[u8],
+    steps: &mut Steps<L>,
+) -> Result<Laid, GrowFault>
+    requires { IsHeldReading automaton.now limit document.now.items reading.old }
+    ensures inside { IsHeldReading automaton.now limit document.now.items reading.new }
+    ensures come { IfOk result (λ r. IsHeldReading automaton.now limit (document.now.items ++ piece.now) (Some r)) }
+    ensures appended { IfOk result (λ r. IsAppended (seen automaton.now limit document.now.items reading.old) piece.now
+        (seen automaton.now limit (document.now.items ++ piece.now) (Some r))) }
+    ensures steps { IfOk result (λ r. steps.new + credit (seen automaton.now limit (document.now.items ++ piece.now) (Some r)) + charge
+        (seen automaton.now limit document.now.items reading.old) ≤ steps.old + credit
+        (seen automaton.now limit document.now.items reading.old) + charge
+        (seen automaton.now limit (document.now.items ++ piece.now) (Some r))) }
+    ensures taken { OnOk result (reading.new ≡ None) }
+    ensures spent { (seen automaton.now limit document.now.items reading.old).spent ≡ true → IsErrOf result Spent }
+    ensures long { (seen automaton.now limit document.now.items reading.old).spent ≡ false →
+        2 ^ 28 < length document.now.items + length piece.now → IsErrOf result (TooLong (length document.now.items + length piece.now)) }
+    ensures fault { IfErr result (IsAppendFault (seen automaton.now limit document.now.items reading.old) piece.now) }
+    ensures left { IfErr result (λ e. seen automaton.now limit document.now.items reading.new ≡
+        left_by (seen automaton.now limit document.now.items reading.old) e) }
+{
     automaton.is_marked();
     if reading.is_none() {
         return Err(GrowFault::Spent);
@@ -186,16 +299,10 @@ fn append_to<L: Ledger>(
         return Err(GrowFault::Spent);
     };
     let old = before.take_up(automaton);
-    let new = match old.read(piece, steps) {
-        Ok(new) => new,
-        Err(fault) => return Err(grown_fault(fault)),
-    };
-    let after = new.lay_down();
-    if let Err(_full) = document.extend_from_slice(piece) {
-        return Err(GrowFault::OutOfMemory);
+    match old.read(piece, steps) {
+        Ok(new) => Ok(new.lay_down()),
+        Err(fault) => Err(grown_fault(fault)),
     }
-    *reading = Some(after);
-    Ok(())
 }
 
 /// How many cells are live.
