@@ -13,7 +13,7 @@ use Rattle.spanner_model.specs.Answers.{AreResultNames}
 use Rattle.std.specs.Prelude.{◌^◌}
 use Rattle.spanner_model.specs.Tested.{TestedTree, tested_of}
 use Rattle.session_server.specs.declared.session.Session.{Session as CodeSession}
-use Rattle.spanner_engine.specs.Left.{AnswersLeft}
+use Rattle.spanner_engine.specs.Left.{AnswersLeft, EndsIn, Source, passing_over}
 use Rattle.std.specs.Prelude.{is_some, nat_lt, ◌<◌}
 use Rattle.std.proofs.Common.{length-take}
 use Rattle.std.proofs.lemmas.List.{take_all}
@@ -23,7 +23,7 @@ use Rattle.session_server.specs.Rows.{array_of, rows_text, with_row}
 use Rattle.session_server.specs.Standing.{GivesOne, GivesSoFar, HasGiven, IsKeptSession, IsReadOn, IsSession, IsSessionOver, next_row}
 use Rattle.session_server.proofs.RowTexts.{array_text, row_behind}
 use Rattle.spanner_model.specs.Passing.{AreKnown, Check, Known, checks_of, passing}
-use Rattle.spanner_engine.proofs.PassingLaws.{has_passing, last_fit}
+use Rattle.spanner_engine.proofs.PassingLaws.{has_passing, last_fit, last_rest}
 
 -- ---- a row that comes is an answer
 
@@ -68,7 +68,8 @@ comes_first checks names d old new (Some r) n = n
 pub begun_session : (k : Known) (t : TestedTree) (c : CodeSession) (d : List ℕ) (old : List SpanRow) → tested_of c.tested ≡ t → c.grown ≡ false →
     IsReadOn t.query d (length d ∷ []) c.vars c.growing → length d ≤ 2 ^ 28 → AreBytes d →
     AreResultNames t.query c.vars → AreKnown k t.asked → AreAnswers t.query d c.vars old → AreLast t.query d c.vars c.answers.rest → c.answers.variables ≡ length c.vars →
-    MatchOption (next_row c) ((passing (checks_of k t.asked) c.vars d old ≡ []) × (c.answers.rest ≡ [])) (λ r. passing (checks_of k t.asked) c.vars d old ≡ r ∷ passing (checks_of k t.asked) c.vars d c.answers.rest) →
+    MatchOption (next_row c) ((passing (checks_of k t.asked) c.vars d old ≡ []) × (c.answers.rest ≡ []))
+    (λ r. passing (checks_of k t.asked) c.vars d old ≡ r ∷ passing (checks_of k t.asked) c.vars d c.answers.rest) →
     IsSession k c (begun t d)
 begun_session k t c d old query ready reads few bytes names known answers last wide next =
     inl (
@@ -97,6 +98,18 @@ is_next c is = ap (λ (b : Bool). if b then Some c.answers.row else None) is
 some_next : (b : Bool) (row : SpanRow) → is_some (if b then Some row else None) ≡ b
 some_next true row = refl
 some_next false row = refl
+
+-- what a step of borrowed rows says, where it is known what they are taken from
+module _ (judges : ℕ → List ℕ → Bool) (source taken_from : Source) (old all new : List SpanRow) (row : SpanRow) (some : Bool) (source_is : source ≡ taken_from) (all_is : old ≡ all) where
+  pub next_from : OnTrue some (passing_over judges source old ≡ row ∷ passing_over judges source new) →
+      OnTrue some (passing_over judges taken_from all ≡ row ∷ passing_over judges taken_from new)
+  next_from next = rw (source_is, all_is) at next
+
+  pub none_from : OnFalse some ((passing_over judges source old ≡ []) × (new ≡ [])) → OnFalse some ((passing_over judges taken_from all ≡ []) × (new ≡ []))
+  none_from none = rw (source_is, all_is) at none
+
+pub last_from : (q : QueryTree) (d : List ℕ) (names : List VarName) (old all new : List SpanRow) → old ≡ all → AreLast q d names all → EndsIn old new → AreLast q d names new
+last_from q d names old all new is last ends = last_rest q d names ends.0 new all (sym is ∙ ends.1) last
 
 abbrev pub as_stored : CodeSession → Session → Session
 as_stored c s = record s { query = tested_of c.tested; document = c.growing.document }
@@ -132,7 +145,8 @@ give_one k c s all left some e before after is same written last wide found none
     let D : List ℕ = c.growing.document in
     let comes = comes_of k c (as_stored c s) all c.answers.row (is_next c is) o in
     let next : Option SpanRow = if some then Some left.row else None in
-    let N : List ℕ → Type 0 = λ x. MatchOption next ((passing checks c.vars x c.answers.rest ≡ []) × (left.rest ≡ [])) (λ r. passing checks c.vars x c.answers.rest ≡ r ∷ passing checks c.vars x left.rest) in
+    let N : List ℕ → Type 0 = λ x.
+    MatchOption next ((passing checks c.vars x c.answers.rest ≡ []) × (left.rest ≡ [])) (λ r. passing checks c.vars x c.answers.rest ≡ r ∷ passing checks c.vars x left.rest) in
     record {
       row = c.answers.row;
       rest = passing checks c.vars D c.answers.rest;
@@ -246,6 +260,10 @@ module _ (k : Known) (old : CodeSession) (s : Session) (all : List SpanRow) wher
 pub on_true : (b : Bool) (P : Type 0) → b ≡ true → OnTrue b P → P
 on_true true P e h = h
 on_true false P e h = absurd (cc)
+
+pub on_false : (b : Bool) (P : Type 0) → b ≡ false → OnFalse b P → P
+on_false true P is h = absurd (cc)
+on_false false P is h = h
 
 pub end_given : (k : Known) (old now new : CodeSession) (s : Session) (all : List SpanRow) (count most : ℕ) (before after array : List ℕ) → GivesSoFar k old now count before s all → count ≤ most →
     after ≡ before → array ≡ array_of after → new ≡ now → to_come k (giving count s) now.vars all ≡ [] → HasGiven k old new most array false s all

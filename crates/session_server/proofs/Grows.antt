@@ -1,6 +1,7 @@
 -- What is held of reading a session's document.
 use Rattle.std.proofs.Common.{arith, zero, suc, ◌≡◌, ◌+◌, ◌<◌, ◌≤◌, ◌^◌, ℕ, Bool, true, false, List, [], ◌∷◌, ◌++◌, length, take, drop, Option, None, Some, MatchOption}
-use Rattle.std.proofs.Common.{inl, inr, refl, sym, ap, ◌∙◌, subst, length-append}
+use Rattle.std.proofs.Common.{inl, inr, refl, sym, ap, ◌∙◌, subst, get_or, length-append}
+use Rattle.std.proofs.lemmas.Option.{get_or_from_slice_get, slice_get_within}
 use Rattle.std.specs.Prelude.{if◌then◌else◌, nat_lt}
 use Rattle.std.specs.Bool.{OnTrue, OnFalse}
 use Rattle.serde_json.specs.Data.{array}
@@ -211,7 +212,8 @@ module _ (k : Known) (c : CodeSession) (s : Session) (h : Grown) (whole old : Li
       let next : Option SpanRow = if some then Some left.row else None in
       let found = as_option some left.row _ _ next_one none in
       let N : TestedTree → List ℕ → Type 0 = λ u x.
-      MatchOption next ((passing (checks_of k u.asked) c.vars x old ≡ []) × (left.rest ≡ [])) (λ r. passing (checks_of k u.asked) c.vars x old ≡ r ∷ passing (checks_of k u.asked) c.vars x left.rest) in
+      MatchOption next ((passing (checks_of k u.asked) c.vars x old ≡ []) × (left.rest ≡ []))
+      (λ r. passing (checks_of k u.asked) c.vars x old ≡ r ∷ passing (checks_of k u.asked) c.vars x left.rest) in
       let here = comes_first (checks_of k t.asked) c.vars s.document old left.rest next (subst (N t) same (subst (λ (u : TestedTree). N u e) o.query found)) in
       let P : ℕ → Type 0 = λ n.
       MatchOption next (drop n (passing (checks_of k t.asked) c.vars s.document old) ≡ [])
@@ -248,6 +250,12 @@ page_given k old mid new most written more s all same o h =
     (all, (names, answers), record { rows = shown; tells = tells; now = now })
 
 -- ---- a document that is read at first
+
+pub bytes_held : (d : List ℕ) → ((i x : ℕ) → i < length d → get_or d i x < 256) → AreBytes d
+bytes_held d fits i b is =
+    let within = slice_get_within d i b is in
+    let small = fits i 0 within in
+    omega (arith, small, get_or_from_slice_get d i b 0 is)
 
 module _ (q : QueryTree) (A : Marked) (d : List ℕ) (made : IsCompiled q A) (g : Grown) (fresh : g ≡ at_start A SESSION_TABLE) where
   fresh_read : IsReadOn q [] [] A.names g

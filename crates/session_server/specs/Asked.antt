@@ -1,5 +1,5 @@
 -- What the code's requests stand for.
-use Rattle.std.specs.Prelude.{◌≡◌, ◌≢◌, ℕ, List, Option, None, Some}
+use Rattle.std.specs.Prelude.{◌≡◌, ◌≢◌, ℕ, List, Option, None, Some, string_bytes}
 use Rattle.serde_json.specs.Data.{Data, Members, member, number, unsigned}
 use Rattle.session_server.specs.declared.requests.OpenRequest.{OpenRequest}
 use Rattle.session_server.specs.declared.requests.SessionRequest.{SessionRequest as CodeRequest}
@@ -8,13 +8,13 @@ use Rattle.session_server.specs.Requests.{SessionRequest, open_request, next_req
 
 -- what an open asks
 abbrev pub opening_of : OpenRequest → SessionRequest
-opening_of asked = open_request asked.id asked.query.now asked.document.now
+opening_of asked = open_request asked.id (string_bytes asked.query) (string_bytes asked.document)
 
 -- what is asked
 abbrev pub request_of : CodeRequest → SessionRequest
 request_of (code.Open asked) = opening_of asked
 request_of (code.Next id most) = next_request id most
-request_of (code.Grow id text) = grow_request id text.now
+request_of (code.Grow id text) = grow_request id (string_bytes text)
 request_of (code.Close id) = close_request id
 
 -- the value is this request

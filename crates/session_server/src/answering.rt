@@ -1,5 +1,5 @@
 //! One line, and its reply.
-ghost use Rattle.std.specs.Prelude.{◌≡◌, ◌^◌, ◌≤◌, ◌<◌, ℕ, List, length, IfOk, OnErr, OnOk, IfSome, IfNone, filter, not, ◌==◌, ◌++◌, ◌∷◌, []};
+ghost use Rattle.std.specs.Prelude.{◌≡◌, ◌^◌, ◌≤◌, ◌<◌, ℕ, List, length, IfOk, OnErr, OnOk, IfSome, IfNone, filter, not, ◌==◌, ◌++◌, ◌∷◌, [], string_len};
 ghost use Rattle.std.specs.Str.{IsUtf8};
 ghost use Rattle.spanner_model.specs.Passing.{Known, known};
 ghost use Rattle.note_texts.specs.Notes.{table_note};
@@ -43,14 +43,14 @@ pub(crate) fn answer<J: Judge, L: Ledger>(
         Some(value) => value,
         None => return no_request(alloc),
     };
-    let request = match request_in(&value) {
+    let request = match request_in(value) {
         Some(request) => request,
         None => return no_request(alloc),
     };
+    let id = request.id();
     match answer_request(alloc, tests, sessions, request, steps) {
         Ok(reply) => Ok(reply),
         Err(OutOfMemory) => {
-            let id = request.id();
             close(sessions, id);
             error_of(alloc, id, "memory")
         }
@@ -61,18 +61,18 @@ fn answer_request<J: Judge, L: Ledger>(
     alloc: Global,
     tests: &Tests<J>,
     sessions: &mut Vec<Opened>,
-    request: SessionRequest<'_>,
+    request: SessionRequest,
     steps: &mut Steps<L>,
 ) -> Result<Vec<u8>, OutOfMemory>
     requires stands { (all : Sessions) × AreOpen (known tests.now J.judges) sessions.old.items all }
-    ensures reply { IfOk result (RepliesTo (known tests.now J.judges) sessions.old.items sessions.new.items (request_of request.entry)) }
+    ensures reply { IfOk result (RepliesTo (known tests.now J.judges) sessions.old.items sessions.new.items (request_of request)) }
     ensures memory { OnErr result
-        (LosesOne (known tests.now J.judges) sessions.old.items sessions.new.items (id_of (request_of request.entry))) }
+        (LosesOne (known tests.now J.judges) sessions.old.items sessions.new.items (id_of (request_of request))) }
 {
     match request {
-        SessionRequest::Open(asked) => answer_open(alloc, tests, sessions, &asked, steps),
+        SessionRequest::Open(asked) => answer_open(alloc, tests, sessions, asked, steps),
         SessionRequest::Next { id, most } => answer_next(alloc, tests, sessions, id, most, steps),
-        SessionRequest::Grow { id, text } => answer_grow(alloc, sessions, id, text, steps),
+        SessionRequest::Grow { id, text } => answer_grow(alloc, sessions, id, &text, steps),
         SessionRequest::Close { id } => answer_close(alloc, sessions, id),
     }
 }
@@ -84,11 +84,11 @@ fn answer_open<J: Judge, L: Ledger>(
     alloc: Global,
     tests: &Tests<J>,
     sessions: &mut Vec<Opened>,
-    asked: &OpenRequest<'_>,
+    asked: OpenRequest,
     steps: &mut Steps<L>,
 ) -> Result<Vec<u8>, OutOfMemory>
-    ensures reply { IfOk result (RepliesTo (known tests.now J.judges) sessions.old.items sessions.new.items (opening_of asked.now)) }
-    ensures memory { OnErr result (LosesOne (known tests.now J.judges) sessions.old.items sessions.new.items asked.now.id) }
+    ensures reply { IfOk result (RepliesTo (known tests.now J.judges) sessions.old.items sessions.new.items (opening_of asked)) }
+    ensures memory { OnErr result (LosesOne (known tests.now J.judges) sessions.old.items sessions.new.items asked.id) }
 {
     if place_of(sessions, asked.id).is_some() {
         return error_of(alloc, asked.id, "taken");
@@ -107,19 +107,23 @@ fn open_new<J: Judge, L: Ledger>(
     alloc: Global,
     tests: &Tests<J>,
     sessions: &mut Vec<Opened>,
-    asked: &OpenRequest<'_>,
+    asked: OpenRequest,
     steps: &mut Steps<L>,
 ) -> Result<Vec<u8>, OutOfMemory>
-    requires none { HasNone sessions.old.items asked.now.id }
+    requires none { HasNone sessions.old.items asked.id }
     requires room { length sessions.old.items < MOST_SESSIONS }
-    requires few { length asked.now.document.now ≤ 2 ^ 28 }
-    ensures reply { IfOk result (RepliesTo (known tests.now J.judges) sessions.old.items sessions.new.items (opening_of asked.now)) }
-    ensures memory { OnErr result (LosesOne (known tests.now J.judges) sessions.old.items sessions.new.items asked.now.id) }
+    requires few { string_len asked.document ≤ 2 ^ 28 }
+    ensures reply { IfOk result (RepliesTo (known tests.now J.judges) sessions.old.items sessions.new.items (opening_of asked)) }
+    ensures memory { OnErr result (LosesOne (known tests.now J.judges) sessions.old.items sessions.new.items asked.id) }
 {
-    let (query, document) = (asked.query.as_bytes(), asked.document.as_bytes());
-    match Session::open(alloc, tests, query, document, steps) {
-        Ok(session) => put_opened(alloc, sessions, asked.id, session),
-        Err(Refusal::Note(note)) => refused(alloc, asked.id, &note),
+    let OpenRequest {
+        id,
+        query,
+        document,
+    } = asked;
+    match Session::open(alloc, tests, query.as_bytes(), document.into_bytes(), steps) {
+        Ok(session) => put_opened(alloc, sessions, id, session),
+        Err(Refusal::Note(note)) => refused(alloc, id, &note),
         Err(Refusal::OutOfMemory) => Err(OutOfMemory),
     }
 }

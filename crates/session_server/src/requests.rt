@@ -1,37 +1,37 @@
 //! The requests of lines.
-ghost use Rattle.std.specs.Prelude.{◌≡◌, ◌≢◌, ℕ, List, ◌<◌, ◌^◌, Some, None, IfOk, MatchOption, IfSome, IfNone, codes, option_map};
+ghost use Rattle.std.specs.Prelude.{◌≡◌, ◌≢◌, ℕ, List, ◌<◌, ◌^◌, Some, None, IfOk, IfSome, IfNone, codes, option_map, string_bytes};
 ghost use Rattle.std.specs.Str.{IsUtf8};
 ghost use Rattle.std.specs.Bool.{OnTrue, OnFalse};
-ghost use Rattle.serde_json.specs.Data.{Data, no_members, string, object, member as member_of};
+ghost use Rattle.serde_json.specs.Data.{no_members, string, object, member as member_of};
 ghost use Rattle.serde_json.specs.Read.{read};
 ghost use Rattle.serde_json.specs.View.{view, members_view};
-ghost use Rattle.session_server.specs.Requests.{close_request, grow_request, next_request, open_request, session_id as id_of};
+ghost use Rattle.session_server.specs.Requests.{session_id as id_of};
 ghost use Rattle.session_server.specs.Asked.{IsNoObject, IsObjectOf, TakesMember, itself, request_of, whole_number};
 
 use crate::MOST_ROWS_ASKED;
-use serde_json::{Map, Value};
+use serde_json::Value;
 use span_core::OutOfMemory;
 use std::alloc::Global;
-use std::collections::btree_map::Iter;
+use std::collections::btree_map::IntoIter;
 
 /// What an open asks: a session with this number, for the rows of a query's text on a document.
-#[derive(Clone, Copy)]
-pub(crate) struct OpenRequest<'v> {
+#[derive(Drop)]
+pub(crate) struct OpenRequest {
     pub(crate) id: u32,
-    pub(crate) query: &'v str,
-    pub(crate) document: &'v str,
+    pub(crate) query: String,
+    pub(crate) document: String,
 }
 
 /// What is asked of the session with this number.
-#[derive(Clone, Copy)]
-pub(crate) enum SessionRequest<'v> {
-    Open(OpenRequest<'v>),
+#[derive(Drop)]
+pub(crate) enum SessionRequest {
+    Open(OpenRequest),
     Next { id: u32, most: u32 },
-    Grow { id: u32, text: &'v str },
+    Grow { id: u32, text: String },
     Close { id: u32 },
 }
 
-impl SessionRequest<'_> {
+impl SessionRequest {
     pub(crate) fn id(&self) -> u32
         ensures { result ≡ id_of (request_of self.now) }
     {
@@ -43,6 +43,9 @@ impl SessionRequest<'_> {
         }
     }
 }
+
+/// The members that are left of an object, in the order of their names.
+type Members = IntoIter<String, Value, Global>;
 
 /// The JSON value of a line, where it has one.
 pub(crate) fn value_of(alloc: Global, line: &[u8]) -> Result<Option<Value>, OutOfMemory>
@@ -60,52 +63,54 @@ pub(crate) fn value_of(alloc: Global, line: &[u8]) -> Result<Option<Value>, OutO
     }
 }
 
-/// The request that a JSON value is, if it is one.
-pub(crate) fn request_in(value: &Value) -> Option<SessionRequest<'_>>
-    ensures some { IfSome result (λ r. IsObjectOf (view value.now) (request_of r)) }
-    ensures none { IfNone result (IsNoObject (view value.now)) }
+/// The request that a JSON value is, if it is one. Its texts are those of the value, which are not copied.
+pub(crate) fn request_in(value: Value) -> Option<SessionRequest>
+    ensures some { IfSome result (λ r. IsObjectOf (view value) (request_of r)) }
+    ensures none { IfNone result (IsNoObject (view value)) }
 {
-    match value.as_object() {
-        Some(members) => request_with(members),
+    match value {
+        Value::Object(members) => request_with(&mut members.into_iter()),
+        _ => None,
+    }
+}
+
+/// An open has the first name of all, and the other requests begin with their number.
+fn request_with(left: &mut Members) -> Option<SessionRequest>
+    ensures some { IfSome result (λ r. IsObjectOf (object (members_view left.old)) (request_of r)) }
+    ensures none { IfNone result (IsNoObject (object (members_view left.old))) }
+{
+    match left.next() {
+        Some((name, value)) => {
+            if name.as_str() == "doc" {
+                return open_in(value, left);
+            }
+            if name.as_str() == "id" {
+                return numbered_in(&value, left);
+            }
+            None
+        }
         None => None,
     }
 }
 
-fn request_with(members: &Map<String, Value>) -> Option<SessionRequest<'_>>
-    ensures some { IfSome result (λ r. IsObjectOf (object (members_view members.now.entries)) (request_of r)) }
-    ensures none { IfNone result (IsNoObject (object (members_view members.now.entries))) }
+fn open_in(document: Value, left: &mut Members) -> Option<SessionRequest>
+    ensures some { IfSome result
+        (λ r. IsObjectOf (object (member_of (codes "doc") (view document) (members_view left.old))) (request_of r)) }
+    ensures none { IfNone result (IsNoObject (object (member_of (codes "doc") (view document) (members_view left.old)))) }
 {
-    if let Some(request) = open_in(members) {
-        return Some(request);
-    }
-    if let Some(request) = next_in(members) {
-        return Some(request);
-    }
-    if let Some(request) = grow_in(members) {
-        return Some(request);
-    }
-    close_in(members)
-}
-
-fn open_in(members: &Map<String, Value>) -> Option<SessionRequest<'_>>
-    ensures some { IfSome result (λ r. IsObjectOf (object (members_view members.now.entries)) (request_of r)) }
-    ensures none { IfNone result ((id : ℕ) (query document : List ℕ) →
-        ¬ IsObjectOf (object (members_view members.now.entries)) (open_request id query document)) }
-{
-    let mut left = members.iter();
-    let Some(document) = text(&mut left, "doc") else {
+    let Some(document) = text_of(document) else {
         return None;
     };
-    let Some(id) = session_id(&mut left) else {
+    let Some(id) = session_id(left) else {
         return None;
     };
-    if !is_operation(&mut left, "open") {
+    if !is_operation(left, "open") {
         return None;
     }
-    let Some(query) = text(&mut left, "query") else {
+    let Some(query) = text(left, "query") else {
         return None;
     };
-    if !is_empty(&mut left) {
+    if !is_empty(left) {
         return None;
     }
     Some(SessionRequest::Open(OpenRequest {
@@ -115,21 +120,41 @@ fn open_in(members: &Map<String, Value>) -> Option<SessionRequest<'_>>
     }))
 }
 
-fn next_in(members: &Map<String, Value>) -> Option<SessionRequest<'_>>
-    ensures some { IfSome result (λ r. IsObjectOf (object (members_view members.now.entries)) (request_of r)) }
-    ensures none { IfNone result ((id most : ℕ) → ¬ IsObjectOf (object (members_view members.now.entries)) (next_request id most)) }
+fn numbered_in(id: &Value, left: &mut Members) -> Option<SessionRequest>
+    ensures some { IfSome result
+        (λ r. IsObjectOf (object (member_of (codes "id") (view id.now) (members_view left.old))) (request_of r)) }
+    ensures none { IfNone result (IsNoObject (object (member_of (codes "id") (view id.now) (members_view left.old)))) }
 {
-    let mut left = members.iter();
-    let Some(id) = session_id(&mut left) else {
+    let Some(id) = number_of(id) else {
         return None;
     };
-    let Some(most) = whole(&mut left, "n") else {
+    match left.next() {
+        Some((name, value)) => {
+            if name.as_str() == "n" {
+                return next_in(id, &value, left);
+            }
+            if name.as_str() == "op" {
+                return operation_in(id, &value, left);
+            }
+            None
+        }
+        None => None,
+    }
+}
+
+fn next_in(id: u32, most: &Value, left: &mut Members) -> Option<SessionRequest>
+    ensures some { IfSome result (λ r. IsObjectOf (object (member_of (codes "id") (whole_number id)
+        (member_of (codes "n") (view most.now) (members_view left.old)))) (request_of r)) }
+    ensures none { IfNone result (IsNoObject (object (member_of (codes "id") (whole_number id)
+        (member_of (codes "n") (view most.now) (members_view left.old))))) }
+{
+    let Some(most) = most.as_u64() else {
         return None;
     };
-    if !is_operation(&mut left, "next") {
+    if !is_operation(left, "next") {
         return None;
     }
-    if !is_empty(&mut left) {
+    if !is_empty(left) {
         return None;
     }
     if most < 1 || most > MOST_ROWS_ASKED {
@@ -141,47 +166,54 @@ fn next_in(members: &Map<String, Value>) -> Option<SessionRequest<'_>>
     })
 }
 
-fn grow_in(members: &Map<String, Value>) -> Option<SessionRequest<'_>>
-    ensures some { IfSome result (λ r. IsObjectOf (object (members_view members.now.entries)) (request_of r)) }
-    ensures none { IfNone result ((id : ℕ) (more : List ℕ) →
-        ¬ IsObjectOf (object (members_view members.now.entries)) (grow_request id more)) }
+fn operation_in(id: u32, operation: &Value, left: &mut Members) -> Option<SessionRequest>
+    ensures some { IfSome result (λ r. IsObjectOf (object (member_of (codes "id") (whole_number id)
+        (member_of (codes "op") (view operation.now) (members_view left.old)))) (request_of r)) }
+    ensures none { IfNone result (IsNoObject (object (member_of (codes "id") (whole_number id)
+        (member_of (codes "op") (view operation.now) (members_view left.old))))) }
 {
-    let mut left = members.iter();
-    let Some(id) = session_id(&mut left) else {
+    let Some(operation) = operation.as_str() else {
         return None;
     };
-    if !is_operation(&mut left, "grow") {
-        return None;
+    if operation == "grow" {
+        return grow_in(id, left);
     }
-    let Some(more) = text(&mut left, "text") else {
+    if operation == "close" {
+        return close_in(id, left);
+    }
+    None
+}
+
+fn grow_in(id: u32, left: &mut Members) -> Option<SessionRequest>
+    ensures some { IfSome result (λ r. IsObjectOf (object (member_of (codes "id") (whole_number id)
+        (member_of (codes "op") (string (codes "grow")) (members_view left.old)))) (request_of r)) }
+    ensures none { IfNone result (IsNoObject (object (member_of (codes "id") (whole_number id)
+        (member_of (codes "op") (string (codes "grow")) (members_view left.old))))) }
+{
+    let Some(more) = text(left, "text") else {
         return None;
     };
-    if !is_empty(&mut left) {
+    if !is_empty(left) {
         return None;
     }
     Some(SessionRequest::Grow { id, text: more })
 }
 
-fn close_in(members: &Map<String, Value>) -> Option<SessionRequest<'_>>
-    ensures some { IfSome result (λ r. IsObjectOf (object (members_view members.now.entries)) (request_of r)) }
-    ensures none { IfNone result ((id : ℕ) → ¬ IsObjectOf (object (members_view members.now.entries)) (close_request id)) }
+fn close_in(id: u32, left: &mut Members) -> Option<SessionRequest>
+    ensures some { IfSome result (λ r. IsObjectOf (object (member_of (codes "id") (whole_number id)
+        (member_of (codes "op") (string (codes "close")) (members_view left.old)))) (request_of r)) }
+    ensures none { IfNone result (IsNoObject (object (member_of (codes "id") (whole_number id)
+        (member_of (codes "op") (string (codes "close")) (members_view left.old))))) }
 {
-    let mut left = members.iter();
-    let Some(id) = session_id(&mut left) else {
-        return None;
-    };
-    if !is_operation(&mut left, "close") {
-        return None;
-    }
-    if !is_empty(&mut left) {
+    if !is_empty(left) {
         return None;
     }
     Some(SessionRequest::Close { id })
 }
 
 /// The next member, if it has this name.
-fn member<'v>(left: &mut Iter<'v, String, Value>, name: &str) -> Option<&'v Value>
-    ensures { TakesMember itself name.now (members_view left.old) (option_map (λ v. view v.now) result) (members_view left.new) }
+fn member(left: &mut Members, name: &str) -> Option<Value>
+    ensures { TakesMember itself name.now (members_view left.old) (option_map (λ v. view v) result) (members_view left.new) }
 {
     match left.next() {
         Some((key, value)) => {
@@ -195,33 +227,46 @@ fn member<'v>(left: &mut Iter<'v, String, Value>, name: &str) -> Option<&'v Valu
 }
 
 /// The text of the next member, if it has this name and is one.
-fn text<'v>(left: &mut Iter<'v, String, Value>, name: &str) -> Option<&'v str>
-    ensures { TakesMember string name.now (members_view left.old) (option_map (λ s. s.now) result) (members_view left.new) }
+fn text(left: &mut Members, name: &str) -> Option<String>
+    ensures { TakesMember string name.now (members_view left.old) (option_map (λ s. string_bytes s) result) (members_view left.new) }
 {
     match member(left, name) {
-        Some(value) => value.as_str(),
+        Some(value) => text_of(value),
         None => None,
     }
 }
 
-/// The number of the next member, if it has this name and is one that is written in digits alone.
-fn whole(left: &mut Iter<'_, String, Value>, name: &str) -> Option<u64>
-    ensures { TakesMember whole_number name.now (members_view left.old) result (members_view left.new) }
+/// The text that a value is, if it is one.
+fn text_of(value: Value) -> Option<String>
+    ensures some { IfSome result (λ s. view value ≡ string (string_bytes s)) }
+    ensures none { IfNone result ((s : List ℕ) → view value ≢ string s) }
 {
-    match member(left, name) {
-        Some(value) => value.as_u64(),
-        None => None,
+    match value {
+        Value::String(text) => Some(text),
+        _ => None,
     }
 }
 
 /// The number of a session.
-fn session_id(left: &mut Iter<'_, String, Value>) -> Option<u32>
+fn session_id(left: &mut Members) -> Option<u32>
     ensures some { IfSome result (λ id. TakesMember whole_number (codes "id") (members_view left.old) (Some id) (members_view left.new)) }
     ensures small { IfSome result (λ id. id < 2 ^ 32) }
     ensures none { IfNone result ((id : ℕ) → id < 2 ^ 32 → (rest : _) →
         members_view left.old ≢ member_of (codes "id") (whole_number id) rest) }
 {
-    match whole(left, "id") {
+    match member(left, "id") {
+        Some(value) => number_of(&value),
+        None => None,
+    }
+}
+
+/// The number of a session that a value is, if it is written in digits alone.
+fn number_of(value: &Value) -> Option<u32>
+    ensures some { IfSome result (λ id. view value.now ≡ whole_number id) }
+    ensures small { IfSome result (λ id. id < 2 ^ 32) }
+    ensures none { IfNone result ((id : ℕ) → id < 2 ^ 32 → view value.now ≢ whole_number id) }
+{
+    match value.as_u64() {
         Some(id) => {
             if id > u64::from(u32::MAX) {
                 return None;
@@ -233,18 +278,18 @@ fn session_id(left: &mut Iter<'_, String, Value>) -> Option<u32>
 }
 
 /// Whether the next member is the name of this operation.
-fn is_operation(left: &mut Iter<'_, String, Value>, name: &str) -> bool
+fn is_operation(left: &mut Members, name: &str) -> bool
     ensures true_of { OnTrue result (TakesMember string (codes "op") (members_view left.old) (Some name.now) (members_view left.new)) }
     ensures false_of { OnFalse result ((rest : _) → members_view left.old ≢ member_of (codes "op") (string name.now) rest) }
 {
     match text(left, "op") {
-        Some(operation) => operation == name,
+        Some(operation) => operation.as_str() == name,
         None => false,
     }
 }
 
 /// Whether no member is left.
-fn is_empty(left: &mut Iter<'_, String, Value>) -> bool
+fn is_empty(left: &mut Members) -> bool
     ensures true_of { OnTrue result (members_view left.old ≡ no_members) }
     ensures false_of { OnFalse result (members_view left.old ≢ no_members) }
 {

@@ -64,12 +64,12 @@ impl Session {
         alloc: Global,
         tests: &Tests<J>,
         text: &[u8],
-        document: &[u8],
+        document: Vec<u8>,
         steps: &mut Steps<L>,
     ) -> Result<Session, Refusal>
-        requires few { length document.now ≤ 2 ^ 28 }
-        ensures opened { IfOk result (IsBegun (known tests.now J.judges) text.now document.now) }
-        ensures refused { IfErr result (IsRefusal (known tests.now J.judges) text.now document.now) }
+        requires few { length document.items ≤ 2 ^ 28 }
+        ensures opened { IfOk result (IsBegun (known tests.now J.judges) text.now document.items) }
+        ensures refused { IfErr result (IsRefusal (known tests.now J.judges) text.now document.items) }
     {
         let tested = match read_tested(alloc, text) {
             Ok(tested) => tested,
@@ -227,7 +227,8 @@ impl Session {
             IsSessionOver (known tests.now J.judges) self.old s all →
             GivesOne (known tests.now J.judges) self.old self.new rows.old.text.items rows.new.text.items s all)) }
         ensures none { IfOk result (λ some. OnFalse some ((rows.new ≡ rows.old) × (self.new ≡ self.old)
-            × ((s : Spoken) (all : List SpanRow) → IsSessionOver (known tests.now J.judges) self.old s all → to_come (known tests.now J.judges) s self.old.vars all ≡ []))) }
+            × ((s : Spoken) (all : List SpanRow) → IsSessionOver (known tests.now J.judges) self.old s all →
+            to_come (known tests.now J.judges) s self.old.vars all ≡ []))) }
         ensures vars { self.new.vars ≡ self.old.vars }
         ensures line { rows.new.line ≡ rows.old.line }
     {
@@ -254,14 +255,14 @@ fn started<J: Judge, L: Ledger>(
     tests: &Tests<J>,
     _text: &[u8],
     tested: Tested,
-    document: &[u8],
+    document: Vec<u8>,
     steps: &mut Steps<L>,
 ) -> Result<Session, Refusal>
-    requires few { length document.now ≤ 2 ^ 28 }
+    requires few { length document.items ≤ 2 ^ 28 }
     requires spelled { IsTestedText _text.now (tested_of tested) }
     requires only { (other : TestedTree) → IsTestedText _text.now other → other ≡ tested_of tested }
-    ensures opened { IfOk result (IsBegun (known tests.now J.judges) _text.now document.now) }
-    ensures refused { IfErr result (IsRefusal (known tests.now J.judges) _text.now document.now) }
+    ensures opened { IfOk result (IsBegun (known tests.now J.judges) _text.now document.items) }
+    ensures refused { IfErr result (IsRefusal (known tests.now J.judges) _text.now document.items) }
 {
     match bind(&tested, tests) {
         Ok(()) => bound(alloc, tests, _text, tested, document, steps),
@@ -275,13 +276,13 @@ fn bound<J: Judge, L: Ledger>(
     tests: &Tests<J>,
     _text: &[u8],
     tested: Tested,
-    document: &[u8],
+    document: Vec<u8>,
     steps: &mut Steps<L>,
 ) -> Result<Session, Refusal>
-    requires few { length document.now ≤ 2 ^ 28 }
+    requires few { length document.items ≤ 2 ^ 28 }
     requires spelled { IsOnlyTested (known tests.now J.judges) _text.now (tested_of tested) }
-    ensures opened { IfOk result (IsBegun (known tests.now J.judges) _text.now document.now) }
-    ensures refused { IfErr result (IsRefusal (known tests.now J.judges) _text.now document.now) }
+    ensures opened { IfOk result (IsBegun (known tests.now J.judges) _text.now document.items) }
+    ensures refused { IfErr result (IsRefusal (known tests.now J.judges) _text.now document.items) }
 {
     let Ready {
         vars,
@@ -291,7 +292,7 @@ fn bound<J: Judge, L: Ledger>(
         Ok(begun) => begun,
         Err(refusal) => return Err(refusal),
     };
-    let mut left = TestedRows::new(&mut answers, &tested, &vars, tests, document);
+    let mut left = TestedRows::new(&mut answers, &tested, &vars, tests, growing.document());
     let some = left.advance(steps);
     Ok(Session {
         tested,
@@ -315,17 +316,17 @@ pub(crate) struct Ready {
 fn begun<L: Ledger>(
     alloc: Global,
     query: &Query,
-    document: &[u8],
+    document: Vec<u8>,
     steps: &mut Steps<L>,
 ) -> Result<Ready, Refusal>
-    requires few { length document.now ≤ 2 ^ 28 }
+    requires few { length document.items ≤ 2 ^ 28 }
     requires sound { IsSound (query_of query.now) }
     ensures small { OnOk result (AtomsAreSmall (query_of query.now)) }
     ensures names { IfOk result (λ b. AreResultNames (query_of query.now) b.vars) }
-    ensures growing { IfOk result (λ b. IsReadOn (query_of query.now) document.now (length document.now ∷ []) b.vars b.growing) }
-    ensures all { IfOk result (λ b. AreAnswers (query_of query.now) document.now b.vars b.answers.rest) }
+    ensures growing { IfOk result (λ b. IsReadOn (query_of query.now) document.items (length document.items ∷ []) b.vars b.growing) }
+    ensures all { IfOk result (λ b. AreAnswers (query_of query.now) document.items b.vars b.answers.rest) }
     ensures wide { IfOk result (λ b. b.answers.variables ≡ length b.vars) }
-    ensures refused { IfErr result (IsTooHeavy (query_of query.now) document.now) }
+    ensures refused { IfErr result (IsTooHeavy (query_of query.now) document.items) }
 {
     match compile(alloc, query) {
         Ok(compiled) => all_of(alloc, compiled, document, steps),
@@ -336,16 +337,17 @@ fn begun<L: Ledger>(
 fn all_of<L: Ledger>(
     alloc: Global,
     compiled: Compiled<'_>,
-    document: &[u8],
+    document: Vec<u8>,
     steps: &mut Steps<L>,
 ) -> Result<Ready, Refusal>
     requires names { AreResultNames (query_of compiled.query) compiled.automaton.names }
     requires small { AtomsAreSmall (query_of compiled.query) }
     ensures names { IfOk result (λ b. b.vars ≡ compiled.entry.automaton.names) }
-    ensures growing { IfOk result (λ b. IsReadOn (query_of compiled.entry.query) document.now (length document.now ∷ []) b.vars b.growing) }
-    ensures all { IfOk result (λ b. AreAnswers (query_of compiled.entry.query) document.now b.vars b.answers.rest) }
+    ensures growing { IfOk result
+        (λ b. IsReadOn (query_of compiled.entry.query) document.items (length document.items ∷ []) b.vars b.growing) }
+    ensures all { IfOk result (λ b. AreAnswers (query_of compiled.entry.query) document.items b.vars b.answers.rest) }
     ensures wide { IfOk result (λ b. b.answers.variables ≡ length b.vars) }
-    ensures refused { IfErr result (IsTooHeavy (query_of compiled.entry.query) document.now) }
+    ensures refused { IfErr result (IsTooHeavy (query_of compiled.entry.query) document.items) }
 {
     let vars = compiled.vars().copy();
     let automaton = compiled.into_automaton();
@@ -376,15 +378,15 @@ fn is_large(automaton: &Automaton) -> bool {
 fn read_by<L: Ledger>(
     alloc: Global,
     automaton: Automaton,
-    document: &[u8],
+    document: Vec<u8>,
     steps: &mut Steps<L>,
 ) -> Result<(Growing, Answers), Halt>
     requires compiled { (q : QueryTree) × IsCompiled q automaton }
     ensures growing { IfOk result (λ b. (q : QueryTree) → IsCompiled q automaton →
-        IsReadOn q document.now (length document.now ∷ []) automaton.names b.0) }
-    ensures all { IfOk result (λ b. (q : QueryTree) → IsCompiled q automaton → AreAnswers q document.now automaton.names b.1.rest) }
+        IsReadOn q document.items (length document.items ∷ []) automaton.names b.0) }
+    ensures all { IfOk result (λ b. (q : QueryTree) → IsCompiled q automaton → AreAnswers q document.items automaton.names b.1.rest) }
     ensures wide { IfOk result (λ b. b.1.variables ≡ length automaton.names) }
-    ensures halted { IfErr result (λ h. (q : QueryTree) → IsCompiled q automaton → IsStartHalt q document.now h) }
+    ensures halted { IfErr result (λ h. (q : QueryTree) → IsCompiled q automaton → IsStartHalt q document.items h) }
 {
     if is_large(&automaton) {
         return Err(Halt::OutOfMemory);
@@ -393,7 +395,7 @@ fn read_by<L: Ledger>(
         Ok(growing) => growing,
         Err(fault) => return Err(halt_of(fault)),
     };
-    if let Err(fault) = growing.append(document, steps) {
+    if let Err(fault) = growing.append_vec(document, steps) {
         return Err(halt_of(fault));
     }
     match growing.rows(steps) {

@@ -34,8 +34,8 @@ returns-in-Ok g c =
     let is = is_request line value request has.0 has.1 c.in-Some-request_in.ensures.some in
     record { reply = line_of_request k cs c.answer_request.new.sessions.items line request c.in-Ok.reply is c.in-Ok.ensures.reply }
 
-pub returns : goal.returns
-returns g c =
+pub returns-in-Err : goal.returns-in-Err
+returns-in-Err g c =
     let k = known c.args.tests.now g.J.Judge.judges in
     let cs = c.args.sessions.now.items in
     let line = c.args.line.now in

@@ -1,4 +1,6 @@
-use Rattle.std.proofs.Common.{List, ℕ, sym, subst}
+use Rattle.std.proofs.Common.{List, ℕ, ap, sym, subst}
+use Rattle.std.specs.Prelude.{Vec, string_bytes}
+use Rattle.std.specs.declared.alloc.Global.{Global}
 use Rattle.spanner_model.specs.Passing.{known}
 use Rattle.session_server.specs.Asked.{opening_of}
 use Rattle.session_server.specs.Replies.{IsRefused, error_of}
@@ -10,38 +12,39 @@ pub returns-in-Err-Note-clause-reply : goal.returns-in-Err-Note-clause-reply
 returns-in-Err-Note-clause-reply g c =
     let k = known c.args.tests.now g.J.Judge.judges in
     let cs = c.args.sessions.now.items in
-    let asked = c.args.asked.now in
-    let q = c.as_bytes-query.result.now in
-    let d = c.as_bytes-document.result.now in
+    let asked = c.args.asked in
+    let q = c.as_bytes.result.now in
+    let d = c.into_bytes.result.items in
     let note = c.deref.result.now in
     let why = why_refused k q d c.in-Err-Note.field-0 c.in-Err-Note.note c.in-Err-Note.field-0-is c.in-Err-Note.ensures.refused in
     let here : IsRefused k q d note = subst (λ (n : List ℕ). IsRefused k q d n) (sym c.deref.ensures.value) why in
     replies_same k c.refused.result cs (opening_of asked) (error_of asked.id note)
-    (λ all o. is_refused k cs all asked.id asked.query.now asked.document.now note q d c.requires.none c.requires.room
-    c.as_bytes-query.ensures.value c.as_bytes-document.ensures.value here o) c.refused.ensures
+    (λ all o. is_refused k cs all asked.id (string_bytes asked.query) (string_bytes asked.document) note q d c.requires.none c.requires.room
+    c.as_bytes.ensures.value (ap (λ (v : Vec ℕ Global). v.items) c.into_bytes.ensures.value) here o) c.refused.ensures
 
 pub returns-in-Err-Note-clause-memory : goal.returns-in-Err-Note-clause-memory
 returns-in-Err-Note-clause-memory g c =
     let k = known c.args.tests.now g.J.Judge.judges in
     let cs = c.args.sessions.now.items in
-    on_err c.refused.result _ (loses_same k cs c.args.asked.now.id)
+    on_err c.refused.result _ (loses_same k cs c.args.asked.id)
 
-pub returns-in-Err-OutOfMemory-clause-memory : goal.returns-in-Err-OutOfMemory-clause-memory
-returns-in-Err-OutOfMemory-clause-memory g c =
+pub returns-clause-memory : goal.returns-clause-memory
+returns-clause-memory g c =
     let k = known c.args.tests.now g.J.Judge.judges in
     let cs = c.args.sessions.now.items in
-    loses_same k cs c.args.asked.now.id
+    loses_same k cs c.args.asked.id
 
 pub returns-in-Ok-clause-reply : goal.returns-in-Ok-clause-reply
 returns-in-Ok-clause-reply g c =
     let k = known c.args.tests.now g.J.Judge.judges in
-    let asked = c.args.asked.now in
-    let q = c.as_bytes-query.result.now in
-    let d = c.as_bytes-document.result.now in
-    replies_put k c.put_opened.result c.args.sessions.now.items c.put_opened.new.sessions.items asked.id asked.query.now asked.document.now q d
-    c.in-Ok.session c.requires.none c.requires.room c.as_bytes-query.ensures.value c.as_bytes-document.ensures.value c.put_opened.ensures.put c.in-Ok.ensures.opened c.put_opened.ensures.reply
+    let asked = c.args.asked in
+    let q = c.as_bytes.result.now in
+    let d = c.into_bytes.result.items in
+    replies_put k c.put_opened.result c.args.sessions.now.items c.put_opened.new.sessions.items asked.id (string_bytes asked.query) (string_bytes asked.document) q d
+    c.in-Ok.session c.requires.none c.requires.room c.as_bytes.ensures.value (ap (λ (v : Vec ℕ Global). v.items) c.into_bytes.ensures.value)
+    c.put_opened.ensures.put c.in-Ok.ensures.opened c.put_opened.ensures.reply
 
 pub returns-in-Ok-clause-memory : goal.returns-in-Ok-clause-memory
 returns-in-Ok-clause-memory g c =
     let k = known c.args.tests.now g.J.Judge.judges in
-    loses_put k c.put_opened.result c.args.sessions.now.items c.put_opened.new.sessions.items c.args.asked.now.id c.put_opened.ensures.same
+    loses_put k c.put_opened.result c.args.sessions.now.items c.put_opened.new.sessions.items c.args.asked.id c.put_opened.ensures.same

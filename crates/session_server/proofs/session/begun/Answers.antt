@@ -14,4 +14,4 @@ returns-in-Ok-clause-names g c =
     ok_under c.all_of.result c.in-Ok.compiled.automaton.names (AreResultNames (query_of c.args.query.now)) c.in-Ok.ensures.words.0 c.all_of.ensures.names
 
 pub returns-in-Err-clause-refused : goal.returns-in-Err-clause-refused
-returns-in-Err-clause-refused g c = heavy_by (query_of c.args.query.now) c.args.document.now c.of_size.result c.in-Err.fault c.in-Err.ensures.fault c.of_size.ensures.note c.of_size.ensures.memory
+returns-in-Err-clause-refused g c = heavy_by (query_of c.args.query.now) c.args.document.items c.of_size.result c.in-Err.fault c.in-Err.ensures.fault c.of_size.ensures.note c.of_size.ensures.memory

@@ -1,9 +1,8 @@
 use Rattle.std.proofs.Common.{rules, arith, ◌≡◌, ◌∙◌, ap, refl, true, false}
-use Rattle.rm_outside.proofs.InputLaws.{on_false}
 use Rattle.spanner_model.specs.Passing.{known}
 use Rattle.session_server.specs.declared.json_rows.JsonRows.{JsonRows}
 use Rattle.session_server.specs.Replies.{giving}
-use Rattle.session_server.proofs.Giving.{end_given, full_given, on_true, one_given}
+use Rattle.session_server.proofs.Giving.{end_given, full_given, on_false, on_true, one_given}
 use Rattle.session_server.proofs.session.Session.next_rows.Goals as goal
 
 pub returns-then-not-branch-clause-given : goal.returns-then-not-branch-clause-given
