@@ -87,11 +87,11 @@ ends_later : (A : Automaton) (d piece lengths : List ℕ) → ((n : ℕ) → Has
 ends_later A d piece lengths within look_up h =
     let n = flat_map_cases (λ n. end_look_ups_at A (take n d)) lengths look_up h in
     let same : take n.0 (d ++ piece) ≡ take n.0 d = take-append-le n.0 d piece (within n.0 n.1) in
-    has_flat_map (λ n. end_look_ups_at A (take n (d ++ piece))) lengths n.0 look_up n.1 (subst (λ front. Has (end_look_ups_at A front) look_up) (sym same) n.2)
+    has_flat_map (λ n. end_look_ups_at A (take n (d ++ piece))) lengths n.0 look_up n.1 (rw same n.2)
 
 ends_now : (A : Automaton) (d lengths : List ℕ) (look_up : LookUp) → Has (end_look_ups_at A d) look_up → Has (ends_at A d (length d ∷ lengths)) look_up
 ends_now A d lengths look_up h =
-    has_flat_map (λ n. end_look_ups_at A (take n d)) (length d ∷ lengths) (length d) look_up (inl refl) (subst (λ front. Has (end_look_ups_at A front) look_up) (sym (take-length d)) h)
+    has_flat_map (λ n. end_look_ups_at A (take n d)) (length d ∷ lengths) (length d) look_up (inl refl) (rw (take-length d) h)
 
 ends_before : (A : Automaton) (d lengths : List ℕ) (n : ℕ) (look_up : LookUp) → Has (ends_at A d lengths) look_up → Has (ends_at A d (n ∷ lengths)) look_up
 ends_before A d lengths n look_up h =
@@ -114,8 +114,7 @@ lengths_law = record {
     within = λ n h. let le = held.within n h in let long = ap length more.document in let sum = length-append old.document piece in omega arith;
     ends = λ look_up h.
         let there = ends_later old.automaton.graph old.document piece lengths held.within look_up (held.ends look_up ((more.ends look_up).0 h)) in
-        subst (λ (A : Marked). Has (ends_at A.graph new.document lengths) look_up) (sym more.automaton)
-        (subst (λ (d : List ℕ). Has (ends_at old.automaton.graph d lengths) look_up) (sym more.document) there);
+        rw (← more.automaton) at (rw (← more.document) at there);
   };
   asked = λ old new lengths held asked. record {
     within = λ n h. elim h as (λ _. n ≤ length new.document) [

@@ -11,7 +11,7 @@ module _ (A : Automaton) (x y : SoFar) (r s : Laid) (x_is : x ≡ resumed A r) (
 
   -- it is so with the automaton
   pub laid_again : IsLaidOf A s
-  laid_again = subst (λ (B : Automaton). IsLaidOf B s) graph_is laid
+  laid_again = rw (← graph_is) laid
 
   pub again_is : y ≡ resumed A s
   again_is = sym same ∙ ap (λ (B : Automaton). resumed B s) graph_is
