@@ -64,8 +64,8 @@ module _ (k : Known) (n : ℕ) where
       IsOnlyTested k query t → AtomsAreSmall t.query → AreResultNames t.query names →
       Answers k (only n o) (open_request n query document) (opened n names) (only n p)
   alone_opens t names query document o p e f is small are =
-      subst (λ (a : Option Session). Answers k (only n a) (open_request n query document) (opened n names) (only n p)) (sym e)
-      (subst (λ (b : Option Session). Answers k [] (open_request n query document) (opened n names) (only n b)) (sym f)
+      rw e
+      (rw f
       (opens t names refl (few_only n None) is small are))
 
   alone_gives : (s : Session) (most : ℕ) (names : List VarName) (rows : List SpanRow) (o p : Option Session) → o ≡ Some s →
@@ -74,18 +74,18 @@ module _ (k : Known) (n : ℕ) where
   alone_gives s most names rows o p e f are answers =
       let reply : Reply = given_rows n (nat_lt most (length (to_come k s names rows))) names (take most (to_come k s names rows)) in
       let new : Session = giving (length (take most (to_come k s names rows))) (asking s) in
-      subst (λ (a : Option Session). Answers k (only n a) (next_request n most) reply (only n p)) (sym e)
-      (subst (λ (b : Option Session). Answers k (only n (Some s)) (next_request n most) reply (only n b)) (sym f)
-      (subst (λ (after : Sessions). Answers k (only n (Some s)) (next_request n most) reply after) (changed_only n new s)
+      rw e
+      (rw f
+      (rw (← changed_only n new s)
       (gives s names rows (of_only n (Some s)) are answers)))
 
   alone_grows : (s : Session) (text : List ℕ) (o p : Option Session) → o ≡ Some s → p ≡ Some (growing text s) → length s.document + length text ≤ MOST_GROWN →
       Answers k (only n o) (grow_request n text) (grown_to n (length s.document + length text)) (only n p)
   alone_grows s text o p e f few =
       let reply : Reply = grown_to n (length s.document + length text) in
-      subst (λ (a : Option Session). Answers k (only n a) (grow_request n text) reply (only n p)) (sym e)
-      (subst (λ (b : Option Session). Answers k (only n (Some s)) (grow_request n text) reply (only n b)) (sym f)
-      (subst (λ (after : Sessions). Answers k (only n (Some s)) (grow_request n text) reply after) (changed_only n (growing text s) s)
+      rw e
+      (rw f
+      (rw (← changed_only n (growing text s) s)
       (grows s (of_only n (Some s)) few)))
 
   -- the session is open no more
@@ -99,8 +99,8 @@ module _ (k : Known) (n : ℕ) where
 
 alone_memory : (k : Known) (r : SessionRequest) (o p : Option Session) → p ≡ None → Answers k (only (session_id r) o) r (error_of (session_id r) (codes "memory")) (only (session_id r) p)
 alone_memory k r o p f =
-    subst (λ (b : Option Session). Answers k (only (session_id r) o) r (error_of (session_id r) (codes "memory")) (only (session_id r) b)) (sym f)
-    (subst (λ (after : Sessions). Answers k (only (session_id r) o) r (error_of (session_id r) (codes "memory")) after) (without_only (session_id r) o) wants_memory)
+    rw f
+    (rw (← without_only (session_id r) o) wants_memory)
 
 alone : (k : Known) (all : Sessions) (r : SessionRequest) (reply : Reply) (after : Sessions) → Answers k all r reply after → reply ≢ error_of (session_id r) (codes "full") →
     Answers k (only (session_id r) (session_of all (session_id r))) r reply (only (session_id r) (session_of after (session_id r)))
@@ -159,7 +159,7 @@ one_more : (k : Known) (n : ℕ) (text : List ℕ) (texts : List (List ℕ)) (re
 one_more k n text texts reply replies o m p about is step rest = record {
   own = text ∷ rest.own;
   lines = one_of is rest.lines;
-  run = subst (λ (rs : List Reply). AreReplies k (only n o) (text ∷ rest.own) rs (only n p)) (sym (kept true n reply replies about)) (first_line step rest.run);
+  run = rw (kept true n reply replies about) (first_line step rest.run);
 }
 
 no_more : (k : Known) (n : ℕ) (text : List ℕ) (texts : List (List ℕ)) (reply : Reply) (replies : List Reply) (o m p : Option Session) →
@@ -167,8 +167,8 @@ no_more : (k : Known) (n : ℕ) (text : List ℕ) (texts : List (List ℕ)) (rep
 no_more k n text texts reply replies o m p about not same rest = record {
   own = rest.own;
   lines = other_of not rest.lines;
-  run = subst (λ (rs : List Reply). AreReplies k (only n o) rest.own rs (only n p)) (sym (kept false n reply replies about))
-      (subst (λ (a : Option Session). AreReplies k (only n a) rest.own (replies_of n replies) (only n p)) same rest.run);
+  run = rw (kept false n reply replies about)
+      (rw (← same) rest.run);
 }
 
 of_request : (k : Known) (n : ℕ) (all mid : Sessions) (text : List ℕ) (texts : List (List ℕ)) (r : SessionRequest) (reply : Reply) (replies : List Reply) (p : Option Session) →

@@ -35,7 +35,7 @@ has_drop (suc n) (r ∷ rows) row h = inr (has_drop n rows row h)
 pub comes_fits : (q : QueryTree) (d : List ℕ) (names : List VarName) (checks : List Check) (given : ℕ) (all rest : List SpanRow) (row : SpanRow) →
     AreAnswers q d names all → drop given (passing checks names d all) ≡ row ∷ rest → FitsRow (length names) (length d) row
 comes_fits q d names checks given all rest row answers is =
-    let there : Has all row = has_passing checks names d all row (has_drop given (passing checks names d all) row (subst (λ (rs : List SpanRow). Has rs row) (sym is) (inl refl))) in
+    let there : Has all row = has_passing checks names d all row (has_drop given (passing checks names d all) row (rw is (inl refl))) in
     last_fit q d names all row (record { all = all; answers = answers; front = []; joined = refl }) there
 
 -- ---- the row behind it
@@ -157,7 +157,7 @@ give_one k c s all left some e before after is same written last wide found none
         ready = o.ready;
         same = o.same;
         answers = o.answers;
-        last = subst (λ (x : List ℕ). AreLast (tested_of c.tested).query x c.vars left.rest) same last;
+        last = rw (← same) last;
         wide = wide ∙ o.wide;
         next = comes_next checks c.vars D s.given all c.answers.rest left.rest c.answers.row next comes (subst N same (as_option some left.row _ _ found none));
       };
@@ -220,7 +220,7 @@ module _ (k : Known) (old : CodeSession) (s : Session) (all : List SpanRow) wher
             ∙ sym (row_behind old.vars (take count coming) one.row)
             ∙ ap (rows_text old.vars) (sym (take_next count coming one.rest one.row left))
             ∙ ap (λ (n : ℕ). rows_text old.vars (take n coming)) next;
-        now = subst (λ (g : ℕ). IsSessionOver k new (record s { given = g }) all) again one.now;
+        now = rw (← again) one.now;
       }
 
   given_at : (now : CodeSession) (count most : ℕ) (written : List ℕ) (more : Bool) → GivesSoFar k old now count written s all → take most coming ≡ take count coming →
@@ -229,7 +229,7 @@ module _ (k : Known) (old : CodeSession) (s : Session) (all : List SpanRow) wher
   given_at now count most written more so same long tells = record {
     rows = ap array_of (so.rows ∙ ap (rows_text old.vars) (sym same)) ∙ array_text old.vars (take most coming);
     tells = tells;
-    now = subst (λ (n : ℕ). IsSessionOver k now (giving n s) all) (sym long) so.now;
+    now = rw long so.now;
   }
 
   -- no further one remains
@@ -268,12 +268,12 @@ on_false false P is h = h
 pub end_given : (k : Known) (old now new : CodeSession) (s : Session) (all : List SpanRow) (count most : ℕ) (before after array : List ℕ) → GivesSoFar k old now count before s all → count ≤ most →
     after ≡ before → array ≡ array_of after → new ≡ now → to_come k (giving count s) now.vars all ≡ [] → HasGiven k old new most array false s all
 end_given k old now new s all count most before after array so few same is stays none =
-    subst (λ (c : CodeSession). HasGiven k old c most array false s all) (sym stays)
-    (subst (λ (text : List ℕ). HasGiven k old now most text false s all) (sym (is ∙ ap array_of same)) (all_given k old s all now count most before so few none))
+    rw stays
+    (rw (is ∙ ap array_of same) (all_given k old s all now count most before so few none))
 
 pub full_given : (k : Known) (old now : CodeSession) (s : Session) (all : List SpanRow) (count most : ℕ) (written array : List ℕ) (more : Bool) → GivesSoFar k old now count written s all →
     count ≡ most →
     array ≡ array_of written → more ≡ now.some → HasGiven k old now most array more s all
 full_given k old now s all count most written array more so is made tells =
-    subst (λ (text : List ℕ). HasGiven k old now most text more s all) (sym made)
-    (most_given k old s all now most written more (subst (λ (n : ℕ). GivesSoFar k old now n written s all) is so) tells)
+    rw made
+    (most_given k old s all now most written more (rw (← is) so) tells)

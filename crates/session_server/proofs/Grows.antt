@@ -19,7 +19,7 @@ use Rattle.one_pass.specs.Places.{sets_met}
 use Rattle.one_pass.proofs.Sets.{weight_covers}
 use Rattle.growing_document.specs.Faults.{IsAppendFault, IsRowsFault, IsWeightFault}
 use Rattle.growing_document.specs.Grown.{AreBytes, AreRowsRead, Grown, IsAppended, HasAskedRows, at_start}
-use Rattle.growing_document.specs.Lengths.{IsAskedAt, ends_at, weight_at}
+use Rattle.growing_document.specs.Lengths.{ends_at, weight_at}
 use Rattle.growing_document.specs.Numbers.{questions_in, end_look_ups_at, first_sets, look_ups_in, sets_in}
 use Rattle.growing_document.specs.declared.fault.GrowFault.{GrowFault}
 use Rattle.growing_document.specs.declared.fault.GrowFault.TheVariants as fault
@@ -59,13 +59,13 @@ module _ (q : QueryTree) (d asked : List ℕ) (names : List VarName) (g h : Grow
     limit = a.limit ∙ r.limit;
     holds = a.document ∙ r.holds;
     goes_on = a.spent ∙ r.goes_on;
-    held = subst (λ (x : List ℕ). IsAskedAt h (length x ∷ asked)) r.holds (lengths_law.asked g h asked r.held a);
+    held = rw (← r.holds) (lengths_law.asked g h asked r.held a);
   }
 
   pub rows_are : (rows : List SpanRow) → AreBytes d → AreRowsRead g.automaton g.document rows → AreAnswers q d names rows
   rows_are rows bytes is =
-      let here : AreRowsRead g.automaton d rows = subst (λ (x : List ℕ). AreRowsRead g.automaton x rows) r.holds is in
-      subst (λ (ns : List VarName). AreAnswers q d ns rows) r.named (whole_rows q g.automaton r.compiled d bytes here.words here.read rows here.are here.order)
+      let here : AreRowsRead g.automaton d rows = rw (← r.holds) is in
+      rw (← r.named) (whole_rows q g.automaton r.compiled d bytes here.words here.read rows here.are here.order)
 
   -- ---- why it is not read on
 
@@ -78,7 +78,7 @@ module _ (q : QueryTree) (d asked : List ℕ) (names : List VarName) (g h : Grow
       omega (arith, less, limit, over, most)
 
   pub more_heavy : (piece : List ℕ) (weight : ℕ) → IsAppendFault g piece (fault.Full weight) → IsHeavy q (d ++ piece) asked
-  more_heavy piece weight f = subst (λ (x : List ℕ). IsHeavy q (x ++ piece) asked) r.holds (heavier (g.document ++ piece) asked weight (lengths_law.append_full g piece asked weight r.held f))
+  more_heavy piece weight f = rw (← r.holds) (heavier (g.document ++ piece) asked weight (lengths_law.append_full g piece asked weight r.held f))
 
   pub rows_heavy : (weight : ℕ) → IsRowsFault g (fault.Full weight) → IsHeavy q d (length d ∷ asked)
   rows_heavy weight f = subst (λ (x : List ℕ). IsHeavy q x (length x ∷ asked)) r.holds (heavier g.document (length g.document ∷ asked) weight (lengths_law.rows_full g asked weight r.held f))
@@ -191,11 +191,11 @@ module _ (k : Known) (c : CodeSession) (s : Session) (h : Grown) (whole old : Li
 
   all_of_them : AreAnswers s.query.query s.document c.vars old
   all_of_them =
-      subst (λ (rows : List SpanRow). AreAnswers s.query.query s.document c.vars rows) (sym fresh)
+      rw fresh
       (rows_are s.query.query s.document s.asked c.vars c.growing c.growing w.kept.growing whole w.kept.bytes are)
 
   pub few_there : length e ≤ 2 ^ 28
-  few_there = subst (λ (x : List ℕ). length x ≤ 2 ^ 28) (sym same) w.kept.few
+  few_there = rw same w.kept.few
 
   pub last_there : AreLast (tested_of c.tested).query e c.vars old
   last_there =
@@ -214,7 +214,7 @@ module _ (k : Known) (c : CodeSession) (s : Session) (h : Grown) (whole old : Li
       let N : TestedTree → List ℕ → Type 0 = λ u x.
       MatchOption next ((passing (checks_of k u.asked) c.vars x old ≡ []) × (left.rest ≡ []))
       (λ r. passing (checks_of k u.asked) c.vars x old ≡ r ∷ passing (checks_of k u.asked) c.vars x left.rest) in
-      let here = comes_first (checks_of k t.asked) c.vars s.document old left.rest next (subst (N t) same (subst (λ (u : TestedTree). N u e) o.query found)) in
+      let here = comes_first (checks_of k t.asked) c.vars s.document old left.rest next (subst (N t) same (rw (← o.query) found)) in
       let P : ℕ → Type 0 = λ n.
       MatchOption next (drop n (passing (checks_of k t.asked) c.vars s.document old) ≡ [])
       (λ r. drop n (passing (checks_of k t.asked) c.vars s.document old) ≡ r ∷ passing (checks_of k t.asked) c.vars s.document left.rest) in (
@@ -222,7 +222,7 @@ module _ (k : Known) (c : CodeSession) (s : Session) (h : Grown) (whole old : Li
         record {
           kept = record {
             query = o.query;
-            growing = subst (λ (b : Bool). IsReadOn t.query s.document (asked_now s b) c.vars h) (sym w.grew) (asked_again t.query s.document s.asked c.vars c.growing h o.growing a);
+            growing = rw w.grew (asked_again t.query s.document s.asked c.vars c.growing h o.growing a);
             few = o.few;
             bytes = o.bytes;
             names = o.names;
@@ -231,7 +231,7 @@ module _ (k : Known) (c : CodeSession) (s : Session) (h : Grown) (whole old : Li
           ready = refl;
           same = refl;
           answers = all_of_them;
-          last = subst (λ (x : List ℕ). AreLast t.query x c.vars left.rest) same (subst (λ (u : TestedTree). AreLast u.query e c.vars left.rest) o.query last);
+          last = rw (← same) (rw (← o.query) last);
           wide = wide;
           next = subst P (sym w.anew) here;
         },
@@ -259,7 +259,7 @@ bytes_held d fits i b is =
 
 module _ (q : QueryTree) (A : Marked) (d : List ℕ) (made : IsCompiled q A) (g : Grown) (fresh : g ≡ at_start A SESSION_TABLE) where
   fresh_read : IsReadOn q [] [] A.names g
-  fresh_read = subst (λ (x : Grown). IsReadOn q [] [] A.names x) (sym fresh) (at_first q A made)
+  fresh_read = rw fresh (at_first q A made)
 
   pub start_append : (e : GrowFault) (h : Halt) → h ≡ halt_of e → IsAppendFault g d e → IsStartHalt q d h
   start_append e h is f = subst (IsStartHalt q d) (sym is) (halt_at_first q d A.names g e fresh_read f)
@@ -275,7 +275,7 @@ module _ (q : QueryTree) (A : Marked) (d : List ℕ) (made : IsCompiled q A) (g 
     start_held asked b = asked_again q d [] A.names more asked whole_read b
 
     pub start_answers : (whole rest : List SpanRow) → AreBytes d → AreRowsRead more.automaton more.document whole → rest ≡ whole → AreAnswers q d A.names rest
-    start_answers whole rest bytes are same = subst (λ (rows : List SpanRow). AreAnswers q d A.names rows) (sym same) (rows_are q d [] A.names more more whole_read whole bytes are)
+    start_answers whole rest bytes are same = rw same (rows_are q d [] A.names more more whole_read whole bytes are)
 
 pub start_new : (q : QueryTree) (A : Marked) (d : List ℕ) (e : GrowFault) (h : Halt) → IsCompiled q A → h ≡ halt_of e → IsWeightFault A.graph SESSION_TABLE [] [] e → IsStartHalt q d h
 start_new q A d e h made is f = subst (IsStartHalt q d) (sym is) (halt_at_start q A d e made f)

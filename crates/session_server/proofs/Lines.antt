@@ -25,7 +25,7 @@ use Rattle.note_texts.specs.Outcomes.{Reports, cut, whole}
 -- ---- one line more
 
 takes_more : (old mid now : Option (List ℕ)) (texts : List (List ℕ)) (text : List ℕ) → TakesLines old texts mid → TakesLine mid text now → TakesLines old (texts ++ text ∷ []) now
-takes_more old mid now [] text t one = (now, subst (λ (o : Option (List ℕ)). TakesLine o text now) t one, refl)
+takes_more old mid now [] text t one = (now, rw (← t) one, refl)
 takes_more old mid now (x ∷ texts) text (next, here, later) one = (next, here, takes_more next mid now texts text later one)
 
 replied_more : (k : Known) (all mid after : Sessions) (texts : List (List ℕ)) (replies : List Reply) (text : List ℕ) (reply : Reply) → AreReplies k all texts replies mid →
@@ -63,11 +63,11 @@ module _ (k : Known) (most : ℕ) (start now before after : Option (List ℕ)) (
 
   module _ (source out : Change) (begins : source.old.bytes ≡ start) (puts : out.old.bytes ≡ before) (written : out.new.bytes ≡ after) where
     took : TakesLines source.old.bytes s.texts now
-    took = subst (λ (o : Option (List ℕ)). TakesLines o s.texts now) (sym begins) s.taken
+    took = rw begins s.taken
 
     added : Adds out (replies_text s.replies)
-    added = subst (λ (o : Option (List ℕ)). Appends o out.new.bytes (replies_text s.replies)) (sym puts)
-        (subst (λ (o : Option (List ℕ)). Appends before o (replies_text s.replies)) (sym written) s.wrote)
+    added = rw puts
+        (rw written s.wrote)
 
     pub ends_served : IsSpent now → IsSpent source.new.bytes → ServesLines k most source out status.Done (line (codes "end"))
     ends_served spent end = all_served s.texts s.replies now took spent end few_texts run added (record { ends = refl; says = refl })
@@ -103,8 +103,8 @@ module _ (k : Known) (most : ℕ) (start now before after : Option (List ℕ)) (
           few = omega (arith, room);
           replied = replied_more k [] s.all all s.texts s.replies text reply s.replied answers;
           stands = stands;
-          wrote = subst (λ (xs : List ℕ). Appends before put xs) (sym (text_more s.replies reply))
-              (Appends-trans before after put (replies_text s.replies) (reply_text reply) s.wrote (subst (λ (xs : List ℕ). Appends after put xs) told wrote));
+          wrote = rw (text_more s.replies reply)
+              (Appends-trans before after put (replies_text s.replies) (reply_text reply) s.wrote (rw (← told) wrote));
         }
 
     pub ends_write : (source out : Change) → source.old.bytes ≡ start → source.new.bytes ≡ new → out.old.bytes ≡ before → AppendsPart after out.new.bytes reply_line → Failed out →
@@ -115,13 +115,13 @@ module _ (k : Known) (most : ℕ) (start now before after : Option (List ℕ)) (
         text_more s.replies reply ∙ ap (λ (xs : List ℕ). all_text ++ xs) (sym told ∙ part.prefix.joined) ∙ sym (append_assoc all_text part.part part.prefix.rest) in
         let added : Appends before out.new.bytes (all_text ++ part.part) = Appends-trans before after out.new.bytes all_text part.part s.wrote part.added in
         write_failed (s.texts ++ text ∷ []) (s.replies ++ reply ∷ [])
-        (subst (λ (o : Option (List ℕ)). TakesLines o (s.texts ++ text ∷ []) source.new.bytes) (sym begins)
-        (subst (λ (o : Option (List ℕ)). TakesLines start (s.texts ++ text ∷ []) o) (sym goes) (takes_more start now new s.texts text s.taken one)))
+        (rw begins
+        (rw goes (takes_more start now new s.texts text s.taken one)))
         more_few
         (record { after = all; replied = replied_more k [] s.all all s.texts s.replies text reply s.replied answers })
         (record {
           part = all_text ++ part.part;
-          added = subst (λ (o : Option (List ℕ)). Appends o out.new.bytes (all_text ++ part.part)) (sym puts) added;
+          added = rw puts added;
           prefix = record { rest = part.prefix.rest; joined = joined };
         })
         failed (record { ends = refl; says = refl })
@@ -131,7 +131,7 @@ module _ (k : Known) (most : ℕ) (start now before after : Option (List ℕ)) (
 pub ended_as : (k : Known) (most : ℕ) (source out : Change) (end wanted : Status) (note text : List ℕ) → end ≡ wanted → note ≡ text → ServesLines k most source out wanted text →
     ServesLines k most source out end note
 ended_as k most source out end wanted note text is says done =
-    subst (λ (e : Status). ServesLines k most source out e note) (sym is) (subst (λ (n : List ℕ). ServesLines k most source out wanted n) (sym says) done)
+    rw is (rw says done)
 
 module _ (limit : ℕ) (old new : Option (List ℕ)) (before after : List ℕ) where
   pub is_long : (e : LineFault) (seen : ℕ) → e ≡ TooLong seen → AsksLine limit old new before after (Err e) → IsNextLong limit old
@@ -158,23 +158,23 @@ no_next text rest next = by text rest [] refl next
 -- these lines are the first of all lines, of which the others are left
 left_over : (bytes : List ℕ) (now : Option (List ℕ)) (xs ys : List (List ℕ)) → TakesLines (Some bytes) xs now → TakesLines (Some bytes) ys (Some []) →
     (rest : List (List ℕ)) × (ys ≡ xs ++ rest) × TakesLines now rest (Some [])
-left_over bytes now [] ys a b = (ys, refl, subst (λ (o : Option (List ℕ)). TakesLines o ys (Some [])) (sym a) b)
+left_over bytes now [] ys a b = (ys, refl, rw a b)
 left_over bytes now (x ∷ xs) [] (None, here, later) b = absurd here
-left_over bytes now (x ∷ xs) [] (Some mid, here, later) b = let e : bytes ≡ [] = cc in absurd (no_next x mid (subst (λ (bs : List ℕ). NextLine bs x mid) e here))
+left_over bytes now (x ∷ xs) [] (Some mid, here, later) b = let e : bytes ≡ [] = cc in absurd (no_next x mid (rw (← e) here))
 left_over bytes now (x ∷ xs) (y ∷ ys) (None, here, later) b = absurd here
 left_over bytes now (x ∷ xs) (y ∷ ys) (Some mid, here, later) (None, there, after) = absurd there
 left_over bytes now (x ∷ xs) (y ∷ ys) (Some mid, here, later) (Some other, there, after) =
     let (same, to) = next_is bytes x mid here in
     let (also, goes) = next_is bytes y other there in
     let meets : other ≡ mid = goes ∙ sym to in
-    let (rest, joined, left) = left_over mid now xs ys later (subst (λ (bs : List ℕ). TakesLines (Some bs) ys (Some [])) meets after) in
+    let (rest, joined, left) = left_over mid now xs ys later (rw (← meets) after) in
     (rest, ap (λ (l : List ℕ). l ∷ ys) (also ∙ sym same) ∙ ap (λ (ls : List (List ℕ)). x ∷ ls) joined, left)
 
 none_left : (now : Option (List ℕ)) (rest : List (List ℕ)) → IsSpent now → (bytes : List ℕ) → now ≡ Some bytes → TakesLines now rest (Some []) → rest ≡ []
 none_left now [] spent bytes is t = refl
 none_left None (x ∷ rest) spent bytes is t = absurd (cc)
 none_left (Some left) (x ∷ rest) spent bytes is (None, here, later) = absurd here
-none_left (Some left) (x ∷ rest) spent bytes is (Some mid, here, later) = absurd (no_next x mid (subst (λ (bs : List ℕ). NextLine bs x mid) spent here))
+none_left (Some left) (x ∷ rest) spent bytes is (Some mid, here, later) = absurd (no_next x mid (rw (← spent) here))
 
 -- what is told stays told
 still_told : (bytes : List ℕ) (xs : List (List ℕ)) (now : Option (List ℕ)) → TakesLines (Some bytes) xs now → (left : List ℕ) × (now ≡ Some left)
@@ -187,7 +187,7 @@ short_after [] rest s = s
 short_after (x ∷ xs) rest s = short_after xs rest s.1
 
 not_long : (left : List ℕ) (rest : List (List ℕ)) → AreShort rest → TakesLines (Some left) rest (Some []) → IsNextLong MOST_LINE_BYTES (Some left) → ⊥
-not_long left [] short t (text, after, next, long) = let e : left ≡ [] = cc in no_next text after (subst (λ (bs : List ℕ). NextLine bs text after) e next)
+not_long left [] short t (text, after, next, long) = let e : left ≡ [] = cc in no_next text after (rw (← e) next)
 not_long left (x ∷ rest) short (None, here, later) long = here
 not_long left (x ∷ rest) short (Some mid, here, later) (text, after, next, long) =
     let a = (next_is left x mid here).0 in
@@ -198,7 +198,7 @@ not_long left (x ∷ rest) short (Some mid, here, later) (text, after, next, lon
 
 not_more : (most : ℕ) (left text : List ℕ) (xs rest : List (List ℕ)) (new : Option (List ℕ)) → length xs ≡ most → length (xs ++ rest) ≤ most → TakesLines (Some left) rest (Some []) →
     TakesLine (Some left) text new → ⊥
-not_more most left text xs [] (Some new) many few t next = let e : left ≡ [] = cc in no_next text new (subst (λ (bs : List ℕ). NextLine bs text new) e next)
+not_more most left text xs [] (Some new) many few t next = let e : left ≡ [] = cc in no_next text new (rw (← e) next)
 not_more most left text xs [] None many few t next = next
 not_more most left text xs (x ∷ rest) new many few t next = let e = length-append xs (x ∷ rest) in absurd (omega (arith, e, many, few))
 
@@ -210,7 +210,7 @@ module _ (k : Known) (most : ℕ) (source out notes : Change) (result : Status) 
   reported end note (cut ends failed part) = absurd (says failed)
 
   from_start : (xs : List (List ℕ)) (now : Option (List ℕ)) → TakesLines source.old.bytes xs now → TakesLines (Some bytes) xs now
-  from_start xs now t = subst (λ (o : Option (List ℕ)). TakesLines o xs now) is t
+  from_start xs now t = rw (← is) t
 
   pub serves_them : (end : Status) (note : List ℕ) → ServesLines k most source out end note → Reports end note notes result → IsServed k texts out notes result ⊎ (result ≡ status.Memory)
   serves_them end note (all_served xs replies now t spent end_spent few_xs served adds told) report =
@@ -223,23 +223,23 @@ module _ (k : Known) (most : ℕ) (source out notes : Change) (result : Status) 
       inl (record {
         done = ends ∙ told.ends;
         replies = replies;
-        served = subst (λ (ls : List (List ℕ)). Served k ls replies) same served;
+        served = rw (← same) served;
         wrote = adds;
-        noted = subst (λ (n : List ℕ). Adds notes n) told.says notes_put;
+        noted = rw (← told.says) notes_put;
       })
   serves_them end note (source_failed xs replies now t failed few_xs served adds told) report = absurd (quiet failed)
   serves_them end note (line_too_long xs replies now t long few_xs served adds told) report =
       let taken = from_start xs now t in
       let (rest, joined, left) = left_over bytes now xs texts taken lines in
       let (held, tells) = still_told bytes xs now taken in
-      absurd (not_long held rest (short_after xs rest (subst AreShort joined short)) (subst (λ (o : Option (List ℕ)). TakesLines o rest (Some [])) tells left)
+      absurd (not_long held rest (short_after xs rest (subst AreShort joined short)) (rw (← tells) left)
       (subst (IsNextLong MOST_LINE_BYTES) tells long))
   serves_them end note (too_many xs replies now next t more many served adds told) report =
       let taken = from_start xs now t in
       let (rest, joined, left) = left_over bytes now xs texts taken lines in
       let (held, tells) = still_told bytes xs now taken in
-      absurd (not_more most held next xs rest source.new.bytes many (subst (λ (ls : List (List ℕ)). length ls ≤ most) joined few)
-      (subst (λ (o : Option (List ℕ)). TakesLines o rest (Some [])) tells left) (subst (λ (o : Option (List ℕ)). TakesLine o next source.new.bytes) tells more))
+      absurd (not_more most held next xs rest source.new.bytes many (rw (← joined) few)
+      (rw (← tells) left) (rw (← tells) more))
   serves_them end note (write_failed xs replies t few_xs served part failed told) report = absurd (puts failed)
   serves_them end note (wants_memory xs replies now t few_xs served adds told) report = inr ((reported end note report).0 ∙ told.ends)
 

@@ -29,12 +29,12 @@ set_open k (d ∷ cs) [] id p c s o none here same new = absurd o
 set_open k (d ∷ cs) (t ∷ all) id zero c s o none here same new =
     let number = o.0 in
     let at : (t.0 == id) ≡ true = grind (arith, nat_tests, number, here) in
-    subst (λ (b : Bool). AreOpen k (c ∷ cs) (if b then (id, s) ∷ all else t ∷ changed id s all)) (sym at) (same, new, o.2)
+    rw at (same, new, o.2)
 set_open k (d ∷ cs) (t ∷ all) id (suc p) c s o none here same new =
     let number = o.0 in
     let other = none.0 in
     let at : (t.0 == id) ≡ false = grind (arith, nat_tests, number, other) in
-    subst (λ (b : Bool). AreOpen k (d ∷ slice_set cs p c) (if b then (id, s) ∷ all else t ∷ changed id s all)) (sym at) (o.0, o.1, set_open k cs all id p c s o.2 none.1 here same new)
+    rw at (o.0, o.1, set_open k cs all id p c s o.2 none.1 here same new)
 
 pub filter_set : (cs : List Opened) (id p : ℕ) (c : Opened) → IsSomeAnd (slice_get cs p) (λ d. d.id ≡ id) → c.id ≡ id →
     filter (λ d. not (d.id == id)) (slice_set cs p c) ≡ filter (λ d. not (d.id == id)) cs
@@ -53,19 +53,19 @@ set_same (d ∷ cs) zero c is = let e : c ≡ d = cc in ap (λ (x : Opened). x �
 set_same (d ∷ cs) (suc p) c is = ap (λ (xs : List Opened). d ∷ xs) (set_same cs p c is)
 
 pub loses_set : (k : Known) (cs : List Opened) (id p : ℕ) (c : Opened) → IsFirstPlaceOf cs id p → c.id ≡ id → LosesOne k cs (slice_set cs p c) id
-loses_set k cs id p c at same = λ all o. subst (λ (xs : List Opened). AreOpen k xs (sessions_without id all)) (sym (filter_set cs id p c at.here same)) (filtered k cs all id o)
+loses_set k cs id p c at same = λ all o. rw (filter_set cs id p c at.here same) (filtered k cs all id o)
 
 pub here_at : (cs : List Opened) (id p : ℕ) (c : Opened) → IsFirstPlaceOf cs id p → c ≡ get_or cs p c → (slice_get cs p ≡ Some c) × (c.id ≡ id)
 here_at cs id p c at is =
     let there : slice_get cs p ≡ Some c = slice_get_read cs (length cs) p c refl at.within is in
-    (there, subst (λ o. IsSomeAnd o (λ d. d.id ≡ id)) there at.here)
+    (there, rw there at at.here)
 
 pub stands_here : (k : Known) (cs : List Opened) (all : Sessions) (id p : ℕ) (c : Opened) → AreOpen k cs all → IsFirstPlaceOf cs id p → slice_get cs p ≡ Some c →
     (s : Session) × (session_of all id ≡ Some s) × IsSession k c.session s
 stands_here k cs all id p c o at there =
     let (d, s, is, found, stands) = found_open k cs all id p o at.none_before at.here in
     let same : d ≡ c = (let e = sym is ∙ there in cc) in
-    (s, found, subst (λ (x : Opened). IsSession k x.session s) same stands)
+    (s, found, rw (← same) stands)
 
 pub stands_at : (k : Known) (cs : List Opened) (all : Sessions) (id p : ℕ) (c : Opened) → AreOpen k cs all → IsFirstPlaceOf cs id p → slice_get cs p ≡ Some c → (s : Session) × IsSession k c.session s
 stands_at k cs all id p c o at there = let (s, found, here) = stands_here k cs all id p c o at there in (s, here)
@@ -82,7 +82,7 @@ replies_given k (Ok s) cs id p most c new written told more at there same given 
       given_rows id (nat_lt most (length (to_come k t c.session.vars all))) c.session.vars rows,
       changed id (giving (length rows) (asking t)) open_all,
       gives t c.session.vars all found names answers,
-      subst (λ (b : Bool). s.items ≡ reply_text (given_rows id b c.session.vars rows)) g.tells (text (json_rows c.session.vars rows) (is ∙ g.rows)),
+      rw (← g.tells) (text (json_rows c.session.vars rows) (is ∙ g.rows)),
       set_open k cs open_all id p (record { id = c.id; session = new }) (giving (length rows) (asking t)) o at.none_before at.here same (inl (all, g.now)),
     )
 
@@ -99,7 +99,7 @@ heavy_closed k (Ok s) cs new id p c d request at there same is step text = λ op
       sessions_without id open_all,
       step open_all t found here,
       text,
-      subst (λ (xs : List Opened). AreOpen k xs (sessions_without id open_all)) (sym (is ∙ filter_set cs id p d at.here same)) (filtered k cs open_all id o),
+      rw (is ∙ filter_set cs id p d at.here same) (filtered k cs open_all id o),
     )
 
 pub loses_closed : (k : Known) (cs new : List Opened) (id p : ℕ) (d : Opened) → IsFirstPlaceOf cs id p → d.id ≡ id → new ≡ filter (λ c. not (c.id == id)) (slice_set cs p d) → LosesOne k cs new id
@@ -126,8 +126,8 @@ replies_grown k (Ok s) cs id p n text bytes c new at there same is sum few grew 
       grown_to id (length t.document + length text),
       changed id (growing text t) open_all,
       grows t found (omega (arith, all_bytes, few)),
-      subst (λ (m : ℕ). s.items ≡ reply_text (grown_to id m)) all_bytes told,
-      set_open k cs open_all id p (record { id = c.id; session = new }) (growing text t) o at.none_before at.here same (subst (λ (x : List ℕ). IsSession k new (growing x t)) is (grew t here)),
+      rw (← all_bytes) told,
+      set_open k cs open_all id p (record { id = c.id; session = new }) (growing text t) o at.none_before at.here same (rw (← is) (grew t here)),
     )
 
 pub too_long : (k : Known) (cs : List Opened) (id p : ℕ) (text bytes : List ℕ) (c : Opened) → IsFirstPlaceOf cs id p → slice_get cs p ≡ Some c → bytes ≡ text →
@@ -143,4 +143,4 @@ pub too_heavy : (k : Known) (id n : ℕ) (text bytes : List ℕ) (c : CodeSessio
 too_heavy k id n text bytes c all s is sum few heavy found here =
     let held : length c.growing.document ≡ length s.document = ap (λ (d : List ℕ). length d) (kept_of k c s here).growing.holds in
     let same_text : length bytes ≡ length text = ap (λ (d : List ℕ). length d) is in
-    heavy_grown s found (omega (arith, held, same_text, sum, few)) (subst (λ (x : List ℕ). IsGrowHalt s x halt.Heavy) is heavy)
+    heavy_grown s found (omega (arith, held, same_text, sum, few)) (rw (← is) heavy)

@@ -1,5 +1,5 @@
 -- The code's open sessions and those that they stand for.
-use Rattle.std.proofs.Common.{arith, ◌≡◌, ◌≢◌, ◌<◌, ◌≤◌, ◌+◌, ℕ, zero, suc, Bool, true, false, List, [], ◌∷◌, ◌++◌, length, take, get_or, filter, Some, None, refl, sym, ap, ◌∙◌, subst}
+use Rattle.std.proofs.Common.{arith, ◌≡◌, ◌≢◌, ◌<◌, ◌≤◌, ◌+◌, ℕ, zero, suc, Bool, true, false, List, [], ◌∷◌, ◌++◌, length, take, get_or, filter, Some, None, refl, ap, ◌∙◌, subst}
 use Rattle.std.specs.Prelude.{not, ◌==◌, if◌then◌else◌, slice_get, Vec, Option, is_none, is_some, IfNone, IfSome, Result, Ok, Err, IfOk, OnErr, OnOk, codes}
 use Rattle.std.specs.Option.{IsSomeAnd}
 use Rattle.std.specs.declared.alloc.Global.{Global}
@@ -45,7 +45,7 @@ pushed k (d ∷ cs) (t ∷ all) c s o new = (o.0, o.1, pushed k cs all c s o.2 n
 pub none_more : (cs : List Opened) (k : ℕ) (c : Opened) (id : ℕ) → HasNone (take k cs) id → k < length cs → c ≡ get_or cs k c → c.id ≢ id → HasNone (take (k + 1) cs) id
 none_more cs k c id none within is other =
     let e : suc k ≡ k + 1 = omega arith in
-    subst (λ (n : ℕ). HasNone (take n cs) id) e (by cs k none within is)
+    rw (← e) (by cs k none within is)
   where
     by : (ds : List Opened) (n : ℕ) → HasNone (take n ds) id → n < length ds → c ≡ get_or ds n c → HasNone (take (suc n) ds) id
     by [] n before small at = absurd (omega (arith, small))
@@ -112,7 +112,7 @@ pub replies_closed : {E : Type 0} (k : Known) (r : Result (Vec ℕ Global) E) (c
     IfOk r (λ s. s.items ≡ reply_text (closed id)) → IfOk r (RepliesTo k cs new (close_request id))
 replies_closed k (Ok s) cs new id p at is text = λ all o.
     let (c, t, there, found, stands) = found_open k cs all id p o at.none_before at.here in
-    (closed id, sessions_without id all, closes t found, text, subst (λ (xs : List Opened). AreOpen k xs (sessions_without id all)) (sym is) (filtered k cs all id o))
+    (closed id, sessions_without id all, closes t found, text, rw is (filtered k cs all id o))
 replies_closed k (Err e) cs new id p at is text = tt
 
 filter_twice : (f : Opened → Bool) (cs : List Opened) → filter f (filter f cs) ≡ filter f cs
@@ -125,7 +125,7 @@ filter_twice f (c ∷ cs) = by (f c) refl (filter_twice f cs)
 
 pub loses_filtered : (k : Known) (cs new : List Opened) (id : ℕ) → new ≡ filter (λ c. not (c.id == id)) cs → LosesOne k cs new id
 loses_filtered k cs new id is = λ all o.
-    subst (λ (xs : List Opened). AreOpen k xs (sessions_without id all)) (sym (ap (filter (λ c. not (c.id == id))) is ∙ filter_twice (λ c. not (c.id == id)) cs)) (filtered k cs all id o)
+    rw (ap (filter (λ c. not (c.id == id))) is ∙ filter_twice (λ c. not (c.id == id)) cs) (filtered k cs all id o)
 
 -- ---- a session is opened
 
@@ -144,7 +144,7 @@ pub is_refused : (k : Known) (cs : List Opened) (all : Sessions) (id : ℕ) (tex
 is_refused k cs all id text document note t d none room same held why o =
     let long = same_length k cs all o in
     refused note (none_open k cs all id o none) (omega (arith, long, room))
-    (subst (λ (x : List ℕ). IsRefused k x document note) same (subst (λ (x : List ℕ). IsRefused k t x note) held why))
+    (rw (← same) (rw (← held) why))
 
 pub why_refused : (k : Known) (t d : List ℕ) (r : Refusal) (note : Vec ℕ Global) → r ≡ Note note → IsRefusal k t d r → IsRefused k t d note.items
 why_refused k t d r note is why = let P : Refusal → Type 0 = IsRefusal k t d in (subst P is why).0
@@ -154,14 +154,14 @@ pub replies_opened : (k : Known) (cs new : List Opened) (id : ℕ) (text documen
     new ≡ cs ++ record { id = id; session = c } ∷ [] → IsBegun k t d c → line.items ≡ reply_text (opened id c.vars) → RepliesTo k cs new (open_request id text document) line
 replies_opened k cs new id text document t d c line none room same held pushed_on begins told = λ all o.
     let long = same_length k cs all o in
-    let here : IsBegun k text document c = subst (λ (x : List ℕ). IsBegun k x document c) same (subst (λ (x : List ℕ). IsBegun k t x c) held begins) in
+    let here : IsBegun k text document c = rw (← same) (rw (← held) begins) in
     let (q, only, small, names, stands) = here in
     let e : Opened = record { id = id; session = c } in (
       opened id c.vars,
       with_session id (begun q document) all,
       opens q c.vars (none_open k cs all id o none) (omega (arith, long, room)) only small names,
       told,
-      subst (λ (xs : List Opened). AreOpen k xs (with_session id (begun q document) all)) (sym pushed_on) (pushed k cs all e (begun q document) o stands),
+      rw pushed_on (pushed k cs all e (begun q document) o stands),
     )
 
 pub replies_put : {E : Type 0} (k : Known) (r : Result (Vec ℕ Global) E) (cs new : List Opened) (id : ℕ) (text document t d : List ℕ) (c : CodeSession) → HasNone cs id → length cs < MOST_SESSIONS →
@@ -172,7 +172,7 @@ replies_put k (Err e) cs new id text document t d c none room same held put begi
 
 pub loses_put : {E : Type 0} (k : Known) (r : Result (Vec ℕ Global) E) (cs new : List Opened) (id : ℕ) → OnErr r (new ≡ cs) → OnErr r (LosesOne k cs new id)
 loses_put k (Ok line) cs new id same = tt
-loses_put k (Err e) cs new id same = subst (λ (xs : List Opened). LosesOne k cs xs id) (sym same) (loses_same k cs id)
+loses_put k (Err e) cs new id same = rw same (loses_same k cs id)
 
 -- ---- a line and its reply
 
@@ -199,7 +199,7 @@ line_of_memory k old mid new text request id (Ok s) is same loses closed_now tol
       sessions_without n all,
       to_request is wants_memory,
       told ∙ ap (λ (m : ℕ). reply_text (error_of m (codes "memory"))) same,
-      subst (λ (xs : List Opened). AreOpen k xs (sessions_without n all)) (sym now) (loses all o),
+      rw now (loses all o),
     )
 
 -- the line's value is this request, or none

@@ -11,7 +11,7 @@ use Rattle.session_server.proofs.answering.answer_grow.Goals as goal
 pub returns-in_default-clause-reply : goal.returns-in_default-clause-reply
 returns-in_default-clause-reply g c =
     let cs = c.args.sessions.now.items in
-    let here : HasNone cs c.args.id = subst (λ (xs : List Opened). HasNone xs c.args.id) c.deref.ensures.value c.in_default.ensures.none in
+    let here : HasNone cs c.args.id = rw (← c.deref.ensures.value) c.in_default.ensures.none in
     λ k. replies_same k c.error_of.result cs (grow_request c.args.id c.args.text.now) (error_of c.args.id (codes "not open")) (λ all o. grow_of_none (none_open k cs all c.args.id o here))
     c.error_of.ensures
 
@@ -24,7 +24,7 @@ returns-in_default-length_with-clause-reply g c =
     let cs = c.args.sessions.now.items in
     let p = c.in-Some.k in
     let x = c.index_mut.result.now in
-    let at : IsFirstPlaceOf cs c.args.id p = subst (λ (xs : List Opened). IsFirstPlaceOf xs c.args.id p) c.deref.ensures.value c.in-Some.ensures.some in
+    let at : IsFirstPlaceOf cs c.args.id p = rw c.deref.ensures.value at c.in-Some.ensures.some in
     let (there, same) = here_at cs c.args.id p x at c.index_mut.ensures.value in
     let r = c.error_of-in_default-length_with.result in
     λ k. subst (λ (xs : List Opened). IfOk r (RepliesTo k cs xs (grow_request c.args.id c.args.text.now))) (sym (set_same cs p x there))
@@ -36,7 +36,7 @@ returns-in_default-length_with-clause-memory g c =
     let cs = c.args.sessions.now.items in
     let p = c.in-Some.k in
     let x = c.index_mut.result.now in
-    let at : IsFirstPlaceOf cs c.args.id p = subst (λ (xs : List Opened). IsFirstPlaceOf xs c.args.id p) c.deref.ensures.value c.in-Some.ensures.some in
+    let at : IsFirstPlaceOf cs c.args.id p = rw (← c.deref.ensures.value) c.in-Some.ensures.some in
     let (there, same) = here_at cs c.args.id p x at c.index_mut.ensures.value in
     λ k. on_err c.error_of-in_default-length_with.result _ (loses_set k cs c.args.id p x at same)
 
@@ -45,7 +45,7 @@ returns-in-Ok-clause-reply g c =
     let cs = c.args.sessions.now.items in
     let p = c.in-Some.k in
     let x = c.index_mut.result.now in
-    let at : IsFirstPlaceOf cs c.args.id p = subst (λ (xs : List Opened). IsFirstPlaceOf xs c.args.id p) c.deref.ensures.value c.in-Some.ensures.some in
+    let at : IsFirstPlaceOf cs c.args.id p = rw (← c.deref.ensures.value) c.in-Some.ensures.some in
     let (there, same) = here_at cs c.args.id p x at c.index_mut.ensures.value in
     let long = c.in-Some-length_with.ensures.some in
     λ k. replies_grown k c.grown.result cs c.args.id p c.in-Some-length_with.length c.args.text.now c.as_bytes-text.result.now x c.grow.new.self
@@ -56,7 +56,7 @@ returns-in-Ok-clause-memory g c =
     let cs = c.args.sessions.now.items in
     let p = c.in-Some.k in
     let x = c.index_mut.result.now in
-    let at : IsFirstPlaceOf cs c.args.id p = subst (λ (xs : List Opened). IsFirstPlaceOf xs c.args.id p) c.deref.ensures.value c.in-Some.ensures.some in
+    let at : IsFirstPlaceOf cs c.args.id p = rw (← c.deref.ensures.value) c.in-Some.ensures.some in
     let (there, same) = here_at cs c.args.id p x at c.index_mut.ensures.value in
     λ k. on_err c.grown.result _ (loses_set k cs c.args.id p (record { id = x.id; session = c.grow.new.self }) at same)
 
@@ -65,7 +65,7 @@ returns-in-Err-Heavy-clause-reply g c =
     let cs = c.args.sessions.now.items in
     let p = c.in-Some.k in
     let x = c.index_mut.result.now in
-    let at : IsFirstPlaceOf cs c.args.id p = subst (λ (xs : List Opened). IsFirstPlaceOf xs c.args.id p) c.deref.ensures.value c.in-Some.ensures.some in
+    let at : IsFirstPlaceOf cs c.args.id p = rw (← c.deref.ensures.value) c.in-Some.ensures.some in
     let (there, same) = here_at cs c.args.id p x at c.index_mut.ensures.value in
     let long = c.in-Some-length_with.ensures.some in
     let bytes = c.as_bytes-text.result.now in
@@ -80,7 +80,7 @@ returns-in-Err-Heavy-clause-memory g c =
     let cs = c.args.sessions.now.items in
     let p = c.in-Some.k in
     let x = c.index_mut.result.now in
-    let at : IsFirstPlaceOf cs c.args.id p = subst (λ (xs : List Opened). IsFirstPlaceOf xs c.args.id p) c.deref.ensures.value c.in-Some.ensures.some in
+    let at : IsFirstPlaceOf cs c.args.id p = rw (← c.deref.ensures.value) c.in-Some.ensures.some in
     let (there, same) = here_at cs c.args.id p x at c.index_mut.ensures.value in
     λ k. on_err c.close_heavy.result _ (loses_closed k cs c.close_heavy.new.sessions.items c.args.id p (record { id = x.id; session = c.grow.new.self }) at same c.close_heavy.ensures.closed)
 
@@ -89,6 +89,6 @@ returns-in-Err-OutOfMemory-clause-memory g c =
     let cs = c.args.sessions.now.items in
     let p = c.in-Some.k in
     let x = c.index_mut.result.now in
-    let at : IsFirstPlaceOf cs c.args.id p = subst (λ (xs : List Opened). IsFirstPlaceOf xs c.args.id p) c.deref.ensures.value c.in-Some.ensures.some in
+    let at : IsFirstPlaceOf cs c.args.id p = rw (← c.deref.ensures.value) c.in-Some.ensures.some in
     let (there, same) = here_at cs c.args.id p x at c.index_mut.ensures.value in
     λ k. loses_set k cs c.args.id p (record { id = x.id; session = c.grow.new.self }) at same

@@ -1,6 +1,5 @@
-use Rattle.std.proofs.Common.{rules, List, codes, subst}
+use Rattle.std.proofs.Common.{rules, codes}
 use Rattle.spanner_model.specs.Passing.{known}
-use Rattle.session_server.specs.declared.answering.Opened.{Opened}
 use Rattle.session_server.specs.Requests.{next_request}
 use Rattle.session_server.specs.Replies.{heavy_next, next_of_none, error_of}
 use Rattle.session_server.specs.Open.{HasNone, IsFirstPlaceOf}
@@ -13,7 +12,7 @@ pub returns-in_default-clause-reply : goal.returns-in_default-clause-reply
 returns-in_default-clause-reply g c =
     let k = known c.args.tests.now g.J.Judge.judges in
     let cs = c.args.sessions.now.items in
-    let here : HasNone cs c.args.id = subst (λ (xs : List Opened). HasNone xs c.args.id) c.deref.ensures.value c.in_default.ensures.none in
+    let here : HasNone cs c.args.id = rw (← c.deref.ensures.value) c.in_default.ensures.none in
     replies_same k c.error_of.result cs (next_request c.args.id c.args.most) (error_of c.args.id (codes "not open")) (λ all o. next_of_none (none_open k cs all c.args.id o here)) c.error_of.ensures
 
 pub returns-in_default-clause-memory : goal.returns-in_default-clause-memory
@@ -23,7 +22,7 @@ pub page-requires : goal.page-requires
 page-requires g c =
     let k = known c.args.tests.now g.J.Judge.judges in
     let cs = c.args.sessions.now.items in
-    let at : IsFirstPlaceOf cs c.args.id c.in-Some.k = subst (λ (xs : List Opened). IsFirstPlaceOf xs c.args.id c.in-Some.k) c.deref.ensures.value c.in-Some.ensures.some in
+    let at : IsFirstPlaceOf cs c.args.id c.in-Some.k = rw c.deref.ensures.value at c.in-Some.ensures.some in
     let (there, same) = here_at cs c.args.id c.in-Some.k c.index_mut.result.now at c.index_mut.ensures.value in
     record { stands = stands_at k cs c.requires.stands.0 c.args.id c.in-Some.k c.index_mut.result.now c.requires.stands.1 at there }
 
@@ -31,7 +30,7 @@ pub returns-in-Ok-clause-reply : goal.returns-in-Ok-clause-reply
 returns-in-Ok-clause-reply g c =
     let k = known c.args.tests.now g.J.Judge.judges in
     let cs = c.args.sessions.now.items in
-    let at : IsFirstPlaceOf cs c.args.id c.in-Some.k = subst (λ (xs : List Opened). IsFirstPlaceOf xs c.args.id c.in-Some.k) c.deref.ensures.value c.in-Some.ensures.some in
+    let at : IsFirstPlaceOf cs c.args.id c.in-Some.k = rw (← c.deref.ensures.value) c.in-Some.ensures.some in
     let (there, same) = here_at cs c.args.id c.in-Some.k c.index_mut.result.now at c.index_mut.ensures.value in
     replies_given k c.given.result cs c.args.id c.in-Some.k c.args.most c.index_mut.result.now c.page.new.self c.in-Ok.page.rows.items c.deref-in-Ok.result.now c.in-Ok.page.more
     at there same c.in-Ok.ensures.given c.deref-in-Ok.ensures.value c.given.ensures
@@ -40,7 +39,7 @@ pub returns-in-Ok-clause-memory : goal.returns-in-Ok-clause-memory
 returns-in-Ok-clause-memory g c =
     let k = known c.args.tests.now g.J.Judge.judges in
     let cs = c.args.sessions.now.items in
-    let at : IsFirstPlaceOf cs c.args.id c.in-Some.k = subst (λ (xs : List Opened). IsFirstPlaceOf xs c.args.id c.in-Some.k) c.deref.ensures.value c.in-Some.ensures.some in
+    let at : IsFirstPlaceOf cs c.args.id c.in-Some.k = rw (← c.deref.ensures.value) c.in-Some.ensures.some in
     let (there, same) = here_at cs c.args.id c.in-Some.k c.index_mut.result.now at c.index_mut.ensures.value in
     on_err c.given.result _ (loses_set k cs c.args.id c.in-Some.k (record { id = c.index_mut.result.now.id; session = c.page.new.self }) at same)
 
@@ -48,7 +47,7 @@ pub returns-in-Err-Heavy-clause-reply : goal.returns-in-Err-Heavy-clause-reply
 returns-in-Err-Heavy-clause-reply g c =
     let k = known c.args.tests.now g.J.Judge.judges in
     let cs = c.args.sessions.now.items in
-    let at : IsFirstPlaceOf cs c.args.id c.in-Some.k = subst (λ (xs : List Opened). IsFirstPlaceOf xs c.args.id c.in-Some.k) c.deref.ensures.value c.in-Some.ensures.some in
+    let at : IsFirstPlaceOf cs c.args.id c.in-Some.k = rw (← c.deref.ensures.value) c.in-Some.ensures.some in
     let (there, same) = here_at cs c.args.id c.in-Some.k c.index_mut.result.now at c.index_mut.ensures.value in
     heavy_closed k c.close_heavy.result cs c.close_heavy.new.sessions.items c.args.id c.in-Some.k c.index_mut.result.now
     (record { id = c.index_mut.result.now.id; session = c.page.new.self }) (next_request c.args.id c.args.most) at there same c.close_heavy.ensures.closed
@@ -58,7 +57,7 @@ pub returns-in-Err-Heavy-clause-memory : goal.returns-in-Err-Heavy-clause-memory
 returns-in-Err-Heavy-clause-memory g c =
     let k = known c.args.tests.now g.J.Judge.judges in
     let cs = c.args.sessions.now.items in
-    let at : IsFirstPlaceOf cs c.args.id c.in-Some.k = subst (λ (xs : List Opened). IsFirstPlaceOf xs c.args.id c.in-Some.k) c.deref.ensures.value c.in-Some.ensures.some in
+    let at : IsFirstPlaceOf cs c.args.id c.in-Some.k = rw (← c.deref.ensures.value) c.in-Some.ensures.some in
     let (there, same) = here_at cs c.args.id c.in-Some.k c.index_mut.result.now at c.index_mut.ensures.value in
     on_err c.close_heavy.result _
     (loses_closed k cs c.close_heavy.new.sessions.items c.args.id c.in-Some.k (record { id = c.index_mut.result.now.id; session = c.page.new.self }) at same c.close_heavy.ensures.closed)
@@ -67,6 +66,6 @@ pub returns-in-Err-OutOfMemory-clause-memory : goal.returns-in-Err-OutOfMemory-c
 returns-in-Err-OutOfMemory-clause-memory g c =
     let k = known c.args.tests.now g.J.Judge.judges in
     let cs = c.args.sessions.now.items in
-    let at : IsFirstPlaceOf cs c.args.id c.in-Some.k = subst (λ (xs : List Opened). IsFirstPlaceOf xs c.args.id c.in-Some.k) c.deref.ensures.value c.in-Some.ensures.some in
+    let at : IsFirstPlaceOf cs c.args.id c.in-Some.k = rw (← c.deref.ensures.value) c.in-Some.ensures.some in
     let (there, same) = here_at cs c.args.id c.in-Some.k c.index_mut.result.now at c.index_mut.ensures.value in
     loses_set k cs c.args.id c.in-Some.k (record { id = c.index_mut.result.now.id; session = c.page.new.self }) at same

@@ -1,8 +1,7 @@
-use Rattle.std.proofs.Common.{rules, arith, ◌≤◌, List, codes, length, subst}
+use Rattle.std.proofs.Common.{rules, arith, ◌≤◌, codes, length}
 use Rattle.std.specs.Prelude.{string_bytes}
 use Rattle.spanner_model.specs.Passing.{known}
 use Rattle.session_server.specs.declared.TheConstants.{MOST_SESSIONS}
-use Rattle.session_server.specs.declared.answering.Opened.{Opened}
 use Rattle.session_server.specs.Asked.{opening_of}
 use Rattle.session_server.specs.Replies.{error_of}
 use Rattle.session_server.specs.Open.{HasNone, IsFirstPlaceOf}
@@ -16,7 +15,7 @@ returns-then-is_some-clause-reply g c =
     let cs = c.args.sessions.now.items in
     let asked = c.args.asked in
     let (p, there) = some_where c.deref.result.now asked.id c.place_of.result (search rules) c.place_of.ensures.some in
-    let at : IsFirstPlaceOf cs asked.id p = subst (λ (xs : List Opened). IsFirstPlaceOf xs asked.id p) c.deref.ensures.value there in
+    let at : IsFirstPlaceOf cs asked.id p = rw (← c.deref.ensures.value) there in
     replies_same k c.error_of.result cs (opening_of asked) (error_of asked.id (codes "taken"))
     (λ all o. is_taken k cs all asked.id p (string_bytes asked.query) (string_bytes asked.document) at o) c.error_of.ensures
 
@@ -32,7 +31,7 @@ returns-then-len-ge-MOST_SESSIONS-clause-reply g c =
     let cs = c.args.sessions.now.items in
     let asked = c.args.asked in
     let free = not_some c.place_of.result (HasNone c.deref.result.now asked.id) (search rules) c.place_of.ensures.none in
-    let none : HasNone cs asked.id = subst (λ (xs : List Opened). HasNone xs asked.id) c.deref.ensures.value free in
+    let none : HasNone cs asked.id = rw (← c.deref.ensures.value) free in
     let many : MOST_SESSIONS ≤ length cs = omega (arith, c.if-len-ge-MOST_SESSIONS.true, c.len.ensures) in
     let r = c.error_of-then-len-ge-MOST_SESSIONS.result in
     replies_same k r cs (opening_of asked) (error_of asked.id (codes "full"))
@@ -55,4 +54,4 @@ open_new-requires-clause-none g c =
     let cs = c.args.sessions.now.items in
     let id = c.args.asked.id in
     let free = not_some c.place_of.result (HasNone c.deref.result.now id) (search rules) c.place_of.ensures.none in
-    subst (λ (xs : List Opened). HasNone xs id) c.deref.ensures.value free
+    rw (← c.deref.ensures.value) free

@@ -1,4 +1,4 @@
-use Rattle.std.proofs.Common.{List, ℕ, ap, sym, subst}
+use Rattle.std.proofs.Common.{ℕ, ap}
 use Rattle.std.specs.Prelude.{Vec, string_bytes}
 use Rattle.std.specs.declared.alloc.Global.{Global}
 use Rattle.spanner_model.specs.Passing.{known}
@@ -17,7 +17,7 @@ returns-in-Err-Note-clause-reply g c =
     let d = c.into_bytes.result.items in
     let note = c.deref.result.now in
     let why = why_refused k q d c.in-Err-Note.field-0 c.in-Err-Note.note c.in-Err-Note.field-0-is c.in-Err-Note.ensures.refused in
-    let here : IsRefused k q d note = subst (λ (n : List ℕ). IsRefused k q d n) (sym c.deref.ensures.value) why in
+    let here : IsRefused k q d note = rw c.deref.ensures.value why in
     replies_same k c.refused.result cs (opening_of asked) (error_of asked.id note)
     (λ all o. is_refused k cs all asked.id (string_bytes asked.query) (string_bytes asked.document) note q d c.requires.none c.requires.room
     c.as_bytes.ensures.value (ap (λ (v : Vec ℕ Global). v.items) c.into_bytes.ensures.value) here o) c.refused.ensures

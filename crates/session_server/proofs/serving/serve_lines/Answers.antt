@@ -1,12 +1,11 @@
-use Rattle.std.proofs.Common.{rules, arith, true, false, ◌≡◌, ◌∙◌, List, ℕ, ◌++◌, codes, inl, inr, refl, sym, ap, subst}
+use Rattle.std.proofs.Common.{rules, arith, true, false, ◌≡◌, ◌∙◌, List, ℕ, ◌++◌, codes, inl, inr, refl, ap}
 use Rattle.rm_outside.specs.Change.{change}
 use Rattle.rm_outside.specs.declared.status.Status.TheVariants as status
 use Rattle.note_texts.specs.Notes.{number_between, line, note_bytes}
 use Rattle.spanner_model.specs.Passing.{known}
 use Rattle.session_server.specs.declared.TheConstants.{MOST_LINE_BYTES}
-use Rattle.session_server.specs.declared.answering.Opened.{Opened}
 use Rattle.session_server.specs.Replies.{IsReply}
-use Rattle.session_server.proofs.Lines.{ServedSoFar, ended_as, ends_failed, ends_long, ends_many, ends_memory, ends_served, ends_write, is_long, is_spent, is_taken, none_served, one_served}
+use Rattle.session_server.proofs.Lines.{ended_as, ends_failed, ends_long, ends_many, ends_memory, ends_served, ends_write, is_long, is_spent, is_taken, none_served, one_served}
 use Rattle.rm_outside.proofs.FaultLaws.{rose_from}
 use Rattle.session_server.proofs.serving.serve_lines.Goals as goal
 
@@ -16,7 +15,7 @@ loop-line-init g c =
     let first = g.R.Source.told c.args.source.now in
     let out_first = g.O.Sink.told c.args.out.now in
     record {
-      so_far = subst (λ (cs : List Opened). ServedSoFar k c.args.most first.bytes first.bytes out_first.bytes out_first.bytes 0 cs) (sym c.new-sessions.ensures.items)
+      so_far = rw c.new-sessions.ensures.items
           (none_served k c.args.most first.bytes out_first.bytes);
       faults = omega arith;
       puts = omega arith;
@@ -152,7 +151,7 @@ returns-in-Err-put g c =
     let taken = is_taken MOST_LINE_BYTES before.bytes after.bytes c.clear.new.self.items c.line.new.into.items c.in-Ok-true.field-0 yes_taken c.in-Ok-true.ensures.asks in
     let is : c.deref.result.now ≡ taken.0 = c.deref.ensures.value ∙ taken.2 ∙ ap (λ (xs : List ℕ). xs ++ taken.0) c.clear.ensures.items in
     let (reply, all, answers, told, stands) = c.in-Ok.ensures.reply so.all so.stands in
-    let said : IsReply k so.all taken.0 reply all = subst (λ (text : List ℕ). IsReply k so.all text reply all) is answers in
+    let said : IsReply k so.all taken.0 reply all = rw (← is) answers in
     let shown = c.deref-in-loop-line.ensures.value ∙ told in
     let rose = rose_from out_first.faults out_before.faults out_after.faults c.loop-line.invariant.puts c.in-Err-put.ensures.failed in
     record {
@@ -176,7 +175,7 @@ loop-line-preserved g c =
     let taken = is_taken MOST_LINE_BYTES before.bytes after.bytes c.clear.new.self.items c.line.new.into.items c.in-Ok-true.field-0 yes_taken c.in-Ok-true.ensures.asks in
     let is : c.deref.result.now ≡ taken.0 = c.deref.ensures.value ∙ taken.2 ∙ ap (λ (xs : List ℕ). xs ++ taken.0) c.clear.ensures.items in
     let (reply, all, answers, told, stands) = c.in-Ok.ensures.reply so.all so.stands in
-    let said : IsReply k so.all taken.0 reply all = subst (λ (text : List ℕ). IsReply k so.all text reply all) is answers in
+    let said : IsReply k so.all taken.0 reply all = rw (← is) answers in
     let shown = c.deref-in-loop-line.ensures.value ∙ told in
     record {
       so_far = one_served k c.args.most first.bytes before.bytes out_first.bytes out_before.bytes c.loop-line.served c.loop-line.sessions.items so after.bytes taken.0

@@ -1,9 +1,8 @@
-use Rattle.std.proofs.Common.{◌≡◌, ◌∙◌, List, [], ◌∷◌, length, sym, ap, subst}
+use Rattle.std.proofs.Common.{◌≡◌, ◌∙◌, List, length, sym, ap, subst}
 use Rattle.marked_automaton.specs.Automaton.{Marked}
 use Rattle.spanner_model.specs.ExprView.{query_of}
-use Rattle.spanner_model.specs.Answers.{AreAnswers}
 use Rattle.spanner_model.specs.Captures.{VarName}
-use Rattle.session_server.specs.Standing.{IsReadOn, IsStartHalt}
+use Rattle.session_server.specs.Standing.{IsStartHalt}
 use Rattle.session_server.specs.declared.session.Halt.{Halt}
 use Rattle.session_server.proofs.Refusals.{heavy_table}
 use Rattle.session_server.proofs.session.all_of.Goals as goal
@@ -12,13 +11,13 @@ pub returns-in-Ok-clause-growing : goal.returns-in-Ok-clause-growing
 returns-in-Ok-clause-growing g c =
     let q = query_of c.args.compiled.query in
     let names : c.into_automaton-automaton.result.names ≡ c.copy-vars.result = ap (λ (A : Marked). A.names) c.into_automaton-automaton.ensures.automaton ∙ sym (c.copy-vars.ensures ∙ c.vars.ensures) in
-    subst (λ (ns : List VarName). IsReadOn q c.args.document.items (length c.args.document.items ∷ []) ns c.in-Ok.growing) names (c.in-Ok.ensures.growing q c.into_automaton-automaton.ensures.compiled)
+    rw (← names) (c.in-Ok.ensures.growing q c.into_automaton-automaton.ensures.compiled)
 
 pub returns-in-Ok-clause-all : goal.returns-in-Ok-clause-all
 returns-in-Ok-clause-all g c =
     let q = query_of c.args.compiled.query in
     let names : c.into_automaton-automaton.result.names ≡ c.copy-vars.result = ap (λ (A : Marked). A.names) c.into_automaton-automaton.ensures.automaton ∙ sym (c.copy-vars.ensures ∙ c.vars.ensures) in
-    subst (λ (ns : List VarName). AreAnswers q c.args.document.items ns c.in-Ok.answers.rest) names (c.in-Ok.ensures.all q c.into_automaton-automaton.ensures.compiled)
+    rw (← names) (c.in-Ok.ensures.all q c.into_automaton-automaton.ensures.compiled)
 
 pub returns-in-Ok-clause-wide : goal.returns-in-Ok-clause-wide
 returns-in-Ok-clause-wide g c =

@@ -1,5 +1,3 @@
-use Rattle.std.proofs.Common.{sym, subst}
-use Rattle.spanner_model.specs.declared.query.Query.{Query}
 use Rattle.spanner_model.specs.ExprView.{query_of}
 use Rattle.spanner_model.specs.Answers.{AreResultNames}
 use Rattle.session_server.proofs.Refusals.{heavy_by, ok_under}
@@ -7,7 +5,7 @@ use Rattle.session_server.proofs.session.begun.Goals as goal
 
 pub all_of-requires-clause-names : goal.all_of-requires-clause-names
 all_of-requires-clause-names g c =
-    subst (λ (q : Query). AreResultNames (query_of q) c.in-Ok.compiled.automaton.names) (sym c.in-Ok.ensures.query) c.in-Ok.ensures.words.0
+    rw c.in-Ok.ensures.query c.in-Ok.ensures.words.0
 
 pub returns-in-Ok-clause-names : goal.returns-in-Ok-clause-names
 returns-in-Ok-clause-names g c =

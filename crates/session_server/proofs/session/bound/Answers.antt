@@ -1,4 +1,4 @@
-use Rattle.std.proofs.Common.{rules, ◌≡◌, ◌∙◌, ℕ, List, [], false, refl, sym, ap, subst}
+use Rattle.std.proofs.Common.{rules, ◌≡◌, ◌∙◌, ℕ, List, [], false, refl, ap}
 use Rattle.spanner_model.specs.Tested.{tested_of}
 use Rattle.spanner_model.specs.Passing.{known}
 use Rattle.spanner_engine.specs.Fitting.{AreLast}
@@ -47,7 +47,7 @@ returns-clause-opened g c =
     (none_from g.J.Judge.judges _ _ _ _ left.rest left.row step.result source from step.ensures.none) in
     let opens : IsSession k (session left) (begun_at t d) =
     begun_session k t (session left) d all refl refl c.in-Ok.ensures.growing c.requires.few bytes c.in-Ok.ensures.names c.requires.spelled.tests_known c.in-Ok.ensures.all last wide next in
-    let behind : (a : AnswersLeft) → a ≡ left → IsSession k (session a) (begun_at t d) = λ a is. subst (λ (x : AnswersLeft). IsSession k (session x) (begun_at t d)) (sym is) opens in (
+    let behind : (a : AnswersLeft) → a ≡ left → IsSession k (session a) (begun_at t d) = λ a is. rw is opens in (
       t,
       c.requires.spelled,
       c.in-Ok.ensures.small,

@@ -1,8 +1,8 @@
 use Rattle.std.proofs.Common.{rules, ◌≡◌, ◌∙◌, List, false, length, sym, ap, subst}
 use Rattle.spanner_model.specs.Captures.{VarName}
-use Rattle.spanner_model.specs.Answers.{AreResultNames, SpanRow}
-use Rattle.spanner_model.specs.Tested.{TestedTree, tested_of}
-use Rattle.spanner_model.specs.Passing.{AreKnown, known}
+use Rattle.spanner_model.specs.Answers.{SpanRow}
+use Rattle.spanner_model.specs.Tested.{tested_of}
+use Rattle.spanner_model.specs.Passing.{known}
 use Rattle.spanner_engine.specs.Left.{AnswersLeft}
 use Rattle.session_server.specs.Replies.{asking}
 use Rattle.session_server.specs.Standing.{IsSessionOver}
@@ -16,7 +16,7 @@ returns-in-Err-clause-halted g c = λ s w. rows_halt (known c.args.tests.now g.J
 pub new-left-requires-clause-names : goal.new-left-requires-clause-names
 new-left-requires-clause-names g c =
     let w = c.requires.stands.1 in
-    subst (λ (t : TestedTree). AreResultNames t.query c.args.self.now.vars) (sym w.kept.query) w.kept.names
+    rw (← w.kept.query) at w.kept.names
 
 pub new-left-requires-clause-few : goal.new-left-requires-clause-few
 new-left-requires-clause-few g c =
@@ -31,7 +31,7 @@ new-left-requires-clause-last g c =
 pub new-left-requires-clause-bound : goal.new-left-requires-clause-bound
 new-left-requires-clause-bound g c =
     let w = c.requires.stands.1 in
-    subst (λ (t : TestedTree). AreKnown (known c.args.tests.now g.J.Judge.judges) t.asked) (sym w.kept.query) w.kept.tests_known
+    rw (← w.kept.query) at w.kept.tests_known
 
 pub new-left-requires-clause-variables : goal.new-left-requires-clause-variables
 new-left-requires-clause-variables g c =

@@ -1,10 +1,8 @@
-use Rattle.std.proofs.Common.{rules, ◌≡◌, ◌∙◌, List, ℕ, true, length, sym, ap, subst}
-use Rattle.std.specs.List.{list_all}
+use Rattle.std.proofs.Common.{rules, ◌≡◌, ◌∙◌, true, length, sym, ap, subst}
 use Rattle.serde_json.specs.Written.{compact_text}
-use Rattle.spanner_model.specs.Answers.{AreResultNames, SpanRow}
-use Rattle.cell_text.specs.Cells.{ends_by}
+use Rattle.spanner_model.specs.Answers.{SpanRow}
 use Rattle.cell_text.proofs.EndLaws.{all_inside}
-use Rattle.spanner_model.specs.Tested.{TestedTree, tested_of}
+use Rattle.spanner_model.specs.Tested.{tested_of}
 use Rattle.spanner_engine.specs.Fitting.{AreLast}
 use Rattle.spanner_engine.specs.Left.{AnswersLeft}
 use Rattle.spanner_model.specs.Passing.{known}
@@ -32,13 +30,13 @@ add-requires-clause-inside g c =
     let some : old.some ≡ true = search rules in
     let fits = row_fits (known c.args.tests.now g.J.Judge.judges) old s c.requires.stands.1 old.answers.row (is_next old some) o in
     let same : c.document-document.result.now ≡ s.document = c.document-document.ensures ∙ o.kept.growing.holds in
-    subst (λ (r : SpanRow). list_all (ends_by (length c.document-document.result.now)) r ≡ true) (sym c.spans.ensures)
-    (subst (λ (d : List ℕ). list_all (ends_by (length d)) old.answers.row ≡ true) (sym same) (all_inside (length s.document) old.answers.row fits.inside))
+    rw c.spans.ensures
+    (rw same (all_inside (length s.document) old.answers.row fits.inside))
 
 pub new-left-requires-clause-names : goal.new-left-requires-clause-names
 new-left-requires-clause-names g c =
     let o = c.requires.stands.2 in
-    subst (λ (t : TestedTree). AreResultNames t.query c.args.self.now.vars) (sym o.kept.query) o.kept.names
+    rw (← o.kept.query) at o.kept.names
 
 pub new-left-requires-clause-variables : goal.new-left-requires-clause-variables
 new-left-requires-clause-variables g c = c.requires.stands.2.wide
@@ -61,10 +59,10 @@ returns-clause-some g c =
     λ s all o.
     let Gives : AnswersLeft → Session → Type 0 = λ a x. GivesOne k old (with_left old a step.result) before c.add.new.self.text.items x all in
     let stored : Gives left (as_stored old s) =
-    let p : IsSessionOver k old (as_stored old s) all = subst (λ (x : Session). IsSessionOver k old x all) (sym (same_session k old s o.kept)) o in
-    let whole : AreLast t.query e old.vars old.answers.rest = subst (λ (d : List ℕ). AreLast t.query d old.vars old.answers.rest) (sym c.document-document.ensures) p.last in
+    let p : IsSessionOver k old (as_stored old s) all = rw (same_session k old s o.kept) o in
+    let whole : AreLast t.query e old.vars old.answers.rest = rw c.document-document.ensures p.last in
     let last = last_from t.query e old.vars _ _ left.rest from whole step.ensures.left in
     give_one k old s all left step.result e before c.add.new.self.text.items some c.document-document.ensures written last wide next none p in
     let given : Gives left s = subst (Gives left) (same_session k old s o.kept) stored in
-    let behind : (a : AnswersLeft) → a ≡ left → Gives a s = λ a is. subst (λ (x : AnswersLeft). Gives x s) (sym is) given in
+    let behind : (a : AnswersLeft) → a ≡ left → Gives a s = λ a is. rw is given in
     behind _ (search rules)
