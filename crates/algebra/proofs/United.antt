@@ -1,5 +1,5 @@
 -- What the parts of a union make.
-use Rattle.std.proofs.Common.{ℕ, ◌+◌, List, ◌++◌, inl, inr, sym, ap, subst, ◌∙◌}
+use Rattle.std.proofs.Common.{ℕ, ◌+◌, List, ◌++◌, inl, inr, ap, subst, ◌∙◌}
 use Rattle.std.specs.Prelude.{map}
 use Rattle.span_core.specs.Lists.{Has}
 use Rattle.span_core.proofs.HasLaws.{Has-append_left, Has-append_right, Has-append_cases, Has-map, Has-map_cases}

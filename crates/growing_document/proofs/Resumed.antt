@@ -1,5 +1,5 @@
 -- A reading that was taken up and is laid down again.
-use Rattle.std.proofs.Common.{◌≡◌, sym, ap, subst, ◌∙◌}
+use Rattle.std.proofs.Common.{◌≡◌, sym, ap, ◌∙◌}
 use Rattle.marked_automaton.specs.Automaton.{Automaton}
 use Rattle.one_pass.specs.declared.readings.Laid.{Laid}
 use Rattle.one_pass.specs.Readings.{IsLaidOf, resumed}

@@ -1,5 +1,5 @@
 -- The list of a formula's variables is ascending, and has exactly these.
-use Rattle.std.proofs.Common.{◌⊎◌, ◌↔◌, List, [], inl, inr, sym, ap, ◌≡◌, subst}
+use Rattle.std.proofs.Common.{◌⊎◌, ◌↔◌, List, [], inl, inr, ap, ◌≡◌}
 use Rattle.span_core.specs.NameSets.{Ascending, with_name}
 use Rattle.span_core.specs.Lists.{Has}
 use Rattle.spanner_model.specs.Tree.{Tree, empty, one, cat_end, cat, alt_end, alt, rep, cap}

@@ -1,5 +1,5 @@
 -- Parts of unions and joins.
-use Rattle.std.proofs.Common.{◌≡◌, ℕ, List, [], ◌∷◌, ◌++◌, inl, inr, refl, sym, subst}
+use Rattle.std.proofs.Common.{◌≡◌, ℕ, List, [], ◌∷◌, ◌++◌, inl, inr, refl}
 use Rattle.span_core.specs.Lists.{Has}
 use Rattle.spanner_model.specs.Expression.{ExprTree, union_all, join_all}
 use Rattle.marked_automaton.specs.declared.fault.SizeFault.{SizeFault}

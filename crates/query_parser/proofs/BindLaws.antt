@@ -1,5 +1,5 @@
 -- The tests of a query one by one: which are known, and the first that is not.
-use Rattle.std.proofs.Common.{◌≡◌, ℕ, zero, suc, ◌+◌, true, false, List, [], ◌∷◌, take, Option, Some, None, inl, inr, refl, sym, subst, arith}
+use Rattle.std.proofs.Common.{◌≡◌, ℕ, zero, suc, ◌+◌, true, false, List, [], ◌∷◌, take, Option, Some, None, inl, inr, refl, arith}
 use Rattle.std.specs.Prelude.{slice_get, IfSome, IfNone, is_none}
 use Rattle.span_tests.specs.Listed.{IsNamed, IsFirstNamed}
 use Rattle.spanner_model.specs.declared.tested.Asked.{Asked}

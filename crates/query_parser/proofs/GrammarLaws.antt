@@ -1,5 +1,5 @@
 -- The laws of the grammar and of the faults that are met when a text is read.
-use Rattle.std.proofs.Common.{◌≡◌, inl, inr, ℕ, zero, suc, ◌+◌, true, false, List, Ok, Err, ap, sym, subst, ◌∙◌, true≢false}
+use Rattle.std.proofs.Common.{◌≡◌, inl, inr, ℕ, zero, suc, ◌+◌, true, false, List, Ok, Err, ap, sym, ◌∙◌, true≢false}
 use Rattle.spanner_model.specs.Expression.{AtomTree, QueryTree}
 use Rattle.formula_parser.proofs.AtomLaws.{one_tree, no_tree_with_fault, one_fault}
 use Rattle.query_parser.specs.declared.fault.QueryFault.TheVariants.{Formula}

@@ -1,5 +1,5 @@
 -- A text has one token at a place, and so one reading of it goes one way.
-use Rattle.std.proofs.Common.{◌≡◌, ℕ, ◌+◌, ◌&&◌, true, List, [], ◌∷◌, ◌++◌, length, drop, Option, Some, Result, Ok, ap, refl, sym, subst, ◌∙◌}
+use Rattle.std.proofs.Common.{◌≡◌, ℕ, ◌+◌, ◌&&◌, true, List, [], ◌∷◌, ◌++◌, length, drop, Option, Some, Result, Ok, ap, refl, sym, ◌∙◌}
 use Rattle.std.specs.List.{list_all, take_while}
 use Rattle.std.proofs.lemmas.Bool.{and_parts}
 use Rattle.span_core.specs.Names.{is_name_start, is_name_byte}

@@ -129,7 +129,8 @@ fn put_rows<O: Sink, J: Judge, L: Ledger>(
     ensures failed { IsErrOf result PageFault.Failed → Failed (change (O.told out.old) (O.told out.new)) }
     ensures later { (O.told out.old).faults ≤ (O.told out.new).faults }
     ensures fits { IfOk result (λ e. FitsIf (length page.old.names) (length page.old.document) e.last) }
-    ensures end { IfOk result (λ e. EndsPage (page_rows J.judges (left_in rows.old) limit) (coming J.judges (left_in rows.old)) e.last e.more) }
+    ensures end { IfOk result
+        (λ e. EndsPage (page_rows J.judges (left_in rows.old) limit) (coming J.judges (left_in rows.old)) e.last e.more) }
     ensures steps { PageTaken J.judges (left_in rows.old) limit (clock steps.old steps.new) }
 {
     let mut some = false;

@@ -61,8 +61,10 @@ fn count_rows<J: Judge, L: Ledger>(rows: &mut TestedRows<'_, J>, steps: &mut Ste
     ensures rows { result.rows ≡ min (length (coming J.judges (left_in rows.old))) (2 ^ 64 - 1) }
     ensures first { result.first ≡ slice_get (coming J.judges (left_in rows.old)) 0 }
     ensures last { later_row result.first result.later ≡ page_end (coming J.judges (left_in rows.old)) None }
-    ensures first_fits { IfSome result.first (FitsPage (length (left_in rows.old).source.names) (length (left_in rows.old).source.document)) }
-    ensures later_fits { IfSome result.later (FitsPage (length (left_in rows.old).source.names) (length (left_in rows.old).source.document)) }
+    ensures first_fits { IfSome result.first
+        (FitsPage (length (left_in rows.old).source.names) (length (left_in rows.old).source.document)) }
+    ensures later_fits { IfSome result.later
+        (FitsPage (length (left_in rows.old).source.names) (length (left_in rows.old).source.document)) }
     ensures steps { AllTaken J.judges (left_in rows.old) (clock steps.old steps.new) }
 {
     let first = match rows.next(steps) {

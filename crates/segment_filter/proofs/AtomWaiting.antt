@@ -1,5 +1,5 @@
 -- The parts that an atom's places read are those that its formula fits.
-use Rattle.std.proofs.Common.{ℕ, suc, List, [], ◌∷◌, Bool, inl, inr, refl, sym, subst}
+use Rattle.std.proofs.Common.{ℕ, suc, List, [], ◌∷◌, Bool, inl, inr, refl}
 use Rattle.spanner_model.specs.Captures.{VarName, Captures}
 use Rattle.spanner_model.specs.Fit.{Fit}
 use Rattle.span_core.specs.Lists.{Has}

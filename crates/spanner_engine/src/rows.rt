@@ -73,10 +73,13 @@ impl<'r, J: Judge> TestedRows<'r, J> {
         ensures variables { self.new.answers.now.variables ≡ self.old.answers.now.variables }
         ensures next { OnTrue result (passing_over J.judges (left_in self.old).source (left_in self.old).rest
             ≡ (left_in self.new).row ∷ passing_over J.judges (left_in self.old).source (left_in self.new).rest) }
-        ensures fits { OnTrue result (FitsRow (length (left_in self.old).source.names) (length (left_in self.old).source.document) (left_in self.new).row) }
-        ensures none { OnFalse result ((passing_over J.judges (left_in self.old).source (left_in self.old).rest ≡ []) × ((left_in self.new).rest ≡ [])) }
+        ensures fits { OnTrue result
+            (FitsRow (length (left_in self.old).source.names) (length (left_in self.old).source.document) (left_in self.new).row) }
+        ensures none { OnFalse result
+            ((passing_over J.judges (left_in self.old).source (left_in self.old).rest ≡ []) × ((left_in self.new).rest ≡ [])) }
         ensures left { EndsIn (left_in self.old).rest (left_in self.new).rest }
-        ensures steps { steps.new ≤ steps.old + trying_steps (length (left_in self.old).source.names) (length (left_in self.old).source.asked)
+        ensures steps { steps.new ≤ steps.old
+            + trying_steps (length (left_in self.old).source.names) (length (left_in self.old).source.asked)
             (length (left_in self.old).rest - length (left_in self.new).rest) result }
     {
         advance_tested(
@@ -113,7 +116,8 @@ impl<'r, J: Judge> TestedRows<'r, J> {
             ≡ row ∷ passing_over J.judges (left_in self.old).source (left_in self.new).rest) }
         ensures fits { IfSome result (FitsRow (length (left_in self.old).source.names) (length (left_in self.old).source.document)) }
         ensures left { EndsIn (left_in self.old).rest (left_in self.new).rest }
-        ensures steps { steps.new ≤ steps.old + trying_steps (length (left_in self.old).source.names) (length (left_in self.old).source.asked)
+        ensures steps { steps.new ≤ steps.old
+            + trying_steps (length (left_in self.old).source.names) (length (left_in self.old).source.asked)
             (length (left_in self.old).rest - length (left_in self.new).rest) (is_some result) }
     {
         if self.advance(steps) {

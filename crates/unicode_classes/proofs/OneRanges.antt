@@ -1,5 +1,5 @@
 -- Ranges that are apart and have the same numbers are equal.
-use Rattle.std.proofs.Common.{◌≡◌, ℕ, ◌+◌, ◌≤◌, ◌↔◌, [], ◌∷◌, refl, sym, subst, inl, inr, arith}
+use Rattle.std.proofs.Common.{◌≡◌, ℕ, ◌+◌, ◌≤◌, ◌↔◌, [], ◌∷◌, refl, sym, inl, inr, arith}
 use Rattle.std.proofs.lemmas.Bool.{cases_lt}
 use Rattle.span_core.specs.Intervals.{Covers, AreApart}
 use Rattle.unicode_classes.proofs.RangeLaws.{covers_past, covers_start, past_first, Ranges}

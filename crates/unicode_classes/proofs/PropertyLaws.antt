@@ -1,5 +1,5 @@
 -- Names that are looked up, and ranges of a table of Unicode that are gone through.
-use Rattle.std.proofs.Common.{◌≡◌, ℕ, ◌+◌, ◌<◌, ◌≤◌, ◌⊎◌, ◌↔◌, Bool, true, false, ◌&&◌, List, [], ◌∷◌, length, get_or, drop, map, Result, Ok, Err, Some, None, refl, sym, ap, subst, inl, inr, arith, ◌∙◌}
+use Rattle.std.proofs.Common.{◌≡◌, ℕ, ◌+◌, ◌<◌, ◌≤◌, ◌⊎◌, ◌↔◌, Bool, true, false, ◌&&◌, List, [], ◌∷◌, length, get_or, drop, map, Result, Ok, Err, Some, None, refl, sym, ap, inl, inr, arith, ◌∙◌}
 use Rattle.std.specs.Prelude.{if◌then◌else◌, nat_le, ◌==◌, IsTrue, IfOk}
 use Rattle.std.specs.Char.{IsScalar}
 use Rattle.std.proofs.lemmas.Bool.{and_parts, and_from, or_cases, or_left, or_right, leb-true, le-leb, eqb-true, eq-eqb, true≢false}

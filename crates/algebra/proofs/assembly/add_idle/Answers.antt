@@ -1,4 +1,4 @@
-use Rattle.std.proofs.Common.{get_or, inl, inr, sym, subst, arith, ◌∙◌}
+use Rattle.std.proofs.Common.{get_or, inl, inr, arith, ◌∙◌}
 use Rattle.std.proofs.lemmas.Option.{slice_get_within, slice_get-get_or}
 use Rattle.span_core.specs.Lists.{Has}
 use Rattle.span_core.proofs.HasLaws.{Has-slice_get}

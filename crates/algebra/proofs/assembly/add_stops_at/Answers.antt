@@ -1,4 +1,4 @@
-use Rattle.std.proofs.Common.{arith, ◌+◌, ◌*◌, ◌^◌, ◌<◌, length, refl, sym, ap, subst}
+use Rattle.std.proofs.Common.{arith, ◌+◌, ◌*◌, ◌^◌, ◌<◌, length, refl, ap}
 use Rattle.std.proofs.lemmas.Nat.{mul-le}
 use Rattle.algebra.proofs.Alike.{Has-item}
 use Rattle.algebra.proofs.EndLaws.{ends_so_far}

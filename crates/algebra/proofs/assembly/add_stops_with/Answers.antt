@@ -1,4 +1,4 @@
-use Rattle.std.proofs.Common.{◌+◌, ◌*◌, ◌^◌, ◌<◌, length, refl, sym, ap, subst}
+use Rattle.std.proofs.Common.{◌+◌, ◌*◌, ◌^◌, ◌<◌, length, refl, ap}
 use Rattle.algebra.proofs.Alike.{Has-item}
 use Rattle.algebra.proofs.assembly.add_stops_with.Goals as goal
 

@@ -1,4 +1,4 @@
-use Rattle.std.proofs.Common.{ℕ, ◌<◌, get_or, subst, arith}
+use Rattle.std.proofs.Common.{ℕ, ◌<◌, get_or, arith}
 use Rattle.std.specs.Prelude.{List}
 use Rattle.span_core.specs.Lists.{Has}
 use Rattle.span_core.proofs.HasLaws.{Has-get_or}

@@ -1,4 +1,4 @@
-use Rattle.std.proofs.Common.{◌∙◌, subst, sym, ap, length, arith}
+use Rattle.std.proofs.Common.{◌∙◌, ap, length, arith}
 use Rattle.marked_automaton.specs.Automaton.{IsBlockOf}
 use Rattle.algebra.proofs.Alike.{Has-item}
 use Rattle.algebra.proofs.moved.add_stops.Goals as goal

@@ -1,4 +1,4 @@
-use Rattle.std.proofs.Common.{arith, ap, length, subst, sym, ◌∙◌}
+use Rattle.std.proofs.Common.{arith, ap, length, ◌∙◌}
 use Rattle.marked_automaton.specs.Automaton.{IsBlockOf}
 use Rattle.algebra.proofs.Alike.{Has-item}
 use Rattle.algebra.proofs.moved.add_ways.Goals as goal

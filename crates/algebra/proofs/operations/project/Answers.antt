@@ -1,4 +1,4 @@
-use Rattle.std.proofs.Common.{◌≡◌, sym, subst}
+use Rattle.std.proofs.Common.{◌≡◌}
 use Rattle.marked_automaton.specs.Automaton.{Automaton, Marked}
 use Rattle.marked_automaton.specs.Marks.{left_of, remarked}
 use Rattle.marked_automaton.specs.Reduct.{Reduces}

@@ -1,4 +1,3 @@
-use Rattle.std.proofs.Common.{subst}
 use Rattle.std.specs.Prelude.{IfOk}
 use Rattle.marked_automaton.specs.Automaton.{Marked}
 use Rattle.marked_automaton.specs.Reduct.{Reduces}

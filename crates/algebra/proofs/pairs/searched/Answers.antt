@@ -1,4 +1,4 @@
-use Rattle.std.proofs.Common.{◌≡◌, List, [], length, sym, ap, subst, arith, ◌∙◌}
+use Rattle.std.proofs.Common.{◌≡◌, List, [], length, ap, arith, ◌∙◌}
 use Rattle.span_core.specs.Lists.{Has}
 use Rattle.algebra.specs.declared.fault.JoinFault.TheVariants.{Size}
 use Rattle.algebra.specs.declared.pairs.Pair.{Pair}

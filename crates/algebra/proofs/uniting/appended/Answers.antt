@@ -1,4 +1,4 @@
-use Rattle.std.proofs.Common.{◌≡◌, ◌+◌, ◌∙◌, subst, sym, ap}
+use Rattle.std.proofs.Common.{◌≡◌, ◌+◌, ◌∙◌, ap}
 use Rattle.span_core.specs.Lists.{Has}
 use Rattle.marked_automaton.specs.Automaton.{Automaton, idle_way, with_states}
 use Rattle.algebra.specs.Moved.{IsWithPart, IsWithWays}

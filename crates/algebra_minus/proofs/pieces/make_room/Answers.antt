@@ -1,4 +1,4 @@
-use Rattle.std.proofs.Common.{List, subst}
+use Rattle.std.proofs.Common.{List}
 use Rattle.marked_automaton.specs.Automaton.{ByteClass}
 use Rattle.algebra_minus.specs.Pieces.{IsKnown}
 use Rattle.algebra_minus.proofs.KnownLaws.{known_pushed}

@@ -1,4 +1,4 @@
-use Rattle.std.proofs.Common.{◌∷◌, [], ◌++◌, List, inl, inr, refl, sym, subst, ◌∙◌}
+use Rattle.std.proofs.Common.{◌∷◌, [], ◌++◌, List, inl, inr, refl, sym, ◌∙◌}
 use Rattle.std.proofs.lemmas.Bool.{OnFalse_at, false≢true}
 use Rattle.span_core.proofs.HasLaws.{Has-append_left, Has-append_right}
 use Rattle.marked_automaton.specs.declared.way.Way.{Way}

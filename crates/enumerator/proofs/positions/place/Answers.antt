@@ -1,4 +1,4 @@
-use Rattle.std.proofs.Common.{◌≡◌, ℕ, ◌^◌, ◌<◌, arith, subst}
+use Rattle.std.proofs.Common.{◌≡◌, ℕ, ◌^◌, ◌<◌, arith}
 use Rattle.enumerator.specs.Rows.{positions_of}
 use Rattle.enumerator.proofs.Placing.{ArePut, put_begins, put_step, put_ends, clear_smaller}
 use Rattle.enumerator.proofs.positions.place.Goals as goal

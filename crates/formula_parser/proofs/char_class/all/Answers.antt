@@ -1,4 +1,4 @@
-use Rattle.std.proofs.Common.{◌≡◌, subst, ap}
+use Rattle.std.proofs.Common.{◌≡◌, ap}
 use Rattle.std.specs.FinSet as set
 use Rattle.formula_parser.specs.Escapes.{elem_set}
 use Rattle.formula_parser.specs.Classes.{after_range}

@@ -1,4 +1,3 @@
-use Rattle.std.proofs.Common.{subst, sym}
 use Rattle.std.specs.Prelude.{IfOk}
 use Rattle.formula_parser.specs.Sets.{Bytes}
 use Rattle.formula_parser.specs.CharView.{Holds, chosen_set}

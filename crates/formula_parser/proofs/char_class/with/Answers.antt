@@ -1,4 +1,4 @@
-use Rattle.std.proofs.Common.{◌≡◌, refl, subst, sym, ap}
+use Rattle.std.proofs.Common.{◌≡◌, refl, ap}
 use Rattle.std.specs.FinSet as set
 use Rattle.formula_parser.specs.Escapes.{elem_set}
 use Rattle.formula_parser.specs.Classes.{no_item, after_elem, after_range}

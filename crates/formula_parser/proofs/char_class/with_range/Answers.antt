@@ -1,4 +1,4 @@
-use Rattle.std.proofs.Common.{◌≡◌, arith, subst}
+use Rattle.std.proofs.Common.{◌≡◌, arith}
 use Rattle.formula_parser.specs.Escapes.{byte}
 use Rattle.formula_parser.specs.CharView.{IsElemOf}
 use Rattle.formula_parser.proofs.CharTurns.{range_added}

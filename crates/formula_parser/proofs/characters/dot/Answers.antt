@@ -1,4 +1,3 @@
-use Rattle.std.proofs.Common.{subst}
 use Rattle.formula_parser.specs.Sets.{single}
 use Rattle.formula_parser.specs.Alphabet.{of_characters, dot_set}
 use Rattle.formula_parser.specs.Nest.{with_unit}

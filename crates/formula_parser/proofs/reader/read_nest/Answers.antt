@@ -1,4 +1,4 @@
-use Rattle.std.proofs.Common.{◌≡◌, ◌≤◌, length, sym, subst, arith, IfOk, IfErr, ◌⊎◌}
+use Rattle.std.proofs.Common.{◌≡◌, ◌≤◌, length, subst, arith, IfOk, IfErr, ◌⊎◌}
 use Rattle.std.proofs.lemmas.Option.{slice_get_within}
 use Rattle.formula_parser.specs.declared.fault.FormulaFault.TheVariants.{OutOfMemory}
 use Rattle.spanner_model.specs.View.{atom_of}

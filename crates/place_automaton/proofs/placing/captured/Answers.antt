@@ -1,4 +1,4 @@
-use Rattle.std.proofs.Common.{◌^◌, sym, ap, ◌∙◌, subst, ℕ}
+use Rattle.std.proofs.Common.{◌^◌, ap, ◌∙◌, ℕ}
 use Rattle.span_core.specs.Block.{opening_bit, closing_bit}
 use Rattle.span_core.proofs.HasLaws.{Contains-Has}
 use Rattle.place_automaton.specs.Sides.{CanCapture, cap_sides}

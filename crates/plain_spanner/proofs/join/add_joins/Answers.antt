@@ -1,4 +1,4 @@
-use Rattle.std.proofs.Common.{ℕ, ◌⊎◌, ◌↔◌, Vec, Global, List, Option, sym, subst}
+use Rattle.std.proofs.Common.{ℕ, ◌⊎◌, ◌↔◌, Vec, Global, List, Option}
 use Rattle.std.specs.Option.{IsSomeAnd}
 use Rattle.std.proofs.lemmas.Option.{slice_get_within}
 use Rattle.span_core.specs.Lists.{Has}

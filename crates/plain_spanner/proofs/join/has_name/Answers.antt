@@ -1,4 +1,4 @@
-use Rattle.std.proofs.Common.{Bool, ◌↔◌, sym, subst}
+use Rattle.std.proofs.Common.{Bool, ◌↔◌}
 use Rattle.std.specs.Prelude.{IsTrue}
 use Rattle.span_core.specs.Lists.{Has}
 use Rattle.plain_spanner.proofs.JoinLaws.{found_has}

@@ -1,4 +1,4 @@
-use Rattle.std.proofs.Common.{◌≡◌, ◌+◌, ◌-◌, arith, ap, subst, sym}
+use Rattle.std.proofs.Common.{◌≡◌, ◌+◌, ◌-◌, arith, ap}
 use Rattle.spanner_model.proofs.ExprTrees.{expr_of-Atom}
 use Rattle.spanner_model.specs.View.{atom_of}
 use Rattle.query_parser.specs.Nest.{with_unit}

@@ -32,13 +32,15 @@ returns-in-Ok-flush-clause-note g c =
 pub returns-in-Err-clause-part : goal.returns-in-Err-clause-part
 returns-in-Err-clause-part g c =
     let a = request_view c.args.request.now in
-    let text = begun_text c.in_ok-page.page a (left_in c.args.rows.now).source _ _ (page_rows g.J.Judge.judges (left_in c.args.rows.now) a.limit) c.in_ok-page.ensures c.vars.ensures c.document.ensures.document in
+    let text = begun_text c.in_ok-page.page a (left_in c.args.rows.now).source _ _ (page_rows g.J.Judge.judges (left_in c.args.rows.now) a.limit)
+    c.in_ok-page.ensures c.vars.ensures c.document.ensures.document in
     rw (← text) c.in-Err.ensures.part
 
 pub returns-in_err-note-clause-part : goal.returns-in_err-note-clause-part
 returns-in_err-note-clause-part g c =
     let a = request_view c.args.request.now in
-    let text = begun_text c.in_ok-page.page a (left_in c.args.rows.now).source _ _ (page_rows g.J.Judge.judges (left_in c.args.rows.now) a.limit) c.in_ok-page.ensures c.vars.ensures c.document.ensures.document in
+    let text = begun_text c.in_ok-page.page a (left_in c.args.rows.now).source _ _ (page_rows g.J.Judge.judges (left_in c.args.rows.now) a.limit)
+    c.in_ok-page.ensures c.vars.ensures c.document.ensures.document in
     on_err c.from_residual-in_err-note.result _
     (rw (← text)
     (passes_part (g.O.Sink.told c.args.out.now) (g.O.Sink.told c.put_rows.new.out) (g.O.Sink.told c.put_rows.new.out) _ _ _ c.in-Ok.ensures.ok
@@ -47,13 +49,15 @@ returns-in_err-note-clause-part g c =
 pub returns-clause-part : goal.returns-clause-part
 returns-clause-part g c =
     let a = request_view c.args.request.now in
-    let text = begun_text c.in_ok-page.page a (left_in c.args.rows.now).source _ _ (page_rows g.J.Judge.judges (left_in c.args.rows.now) a.limit) c.in_ok-page.ensures c.vars.ensures c.document.ensures.document in
+    let text = begun_text c.in_ok-page.page a (left_in c.args.rows.now).source _ _ (page_rows g.J.Judge.judges (left_in c.args.rows.now) a.limit)
+    c.in_ok-page.ensures c.vars.ensures c.document.ensures.document in
     rw (← text)
     (passes_part (g.O.Sink.told c.args.out.now) (g.O.Sink.told c.put_rows.new.out) (g.O.Sink.told c.flush.new.out) _ _ _ c.in-Ok.ensures.ok c.in-Err-flush.ensures.part)
 
 pub returns-in-Ok-flush-clause-whole : goal.returns-in-Ok-flush-clause-whole
 returns-in-Ok-flush-clause-whole g c =
     let a = request_view c.args.request.now in
-    let text = begun_text c.in_ok-page.page a (left_in c.args.rows.now).source _ _ (page_rows g.J.Judge.judges (left_in c.args.rows.now) a.limit) c.in_ok-page.ensures c.vars.ensures c.document.ensures.document in
+    let text = begun_text c.in_ok-page.page a (left_in c.args.rows.now).source _ _ (page_rows g.J.Judge.judges (left_in c.args.rows.now) a.limit)
+    c.in_ok-page.ensures c.vars.ensures c.document.ensures.document in
     rw (← text)
     (passes_whole (g.O.Sink.told c.args.out.now) (g.O.Sink.told c.put_rows.new.out) (g.O.Sink.told c.flush.new.out) _ _ _ c.in-Ok.ensures.ok c.in-Ok-flush.ensures.ok)

@@ -80,7 +80,8 @@ returns-in-Err-clause-part g c =
     let s = (left_in c.args.rows.now).source in
     let row = (left_in c.advance.new.self).row in
     let page = c.args.page.now in
-    let next = goes_on judges s (left_in c.loop-remaining.rows).source c.loop-remaining.invariant.source (left_in c.loop-remaining.rows).rest (left_in c.advance.new.self).rest row c.if-not-advance.ensures.next in
+    let next = goes_on judges s (left_in c.loop-remaining.rows).source c.loop-remaining.invariant.source (left_in c.loop-remaining.rows).rest
+    (left_in c.advance.new.self).rest row c.if-not-advance.ensures.next in
     let front = ap (first_rows c.loop-remaining.remaining) next ∙ c.loop-remaining-test.ensures.one row _ in
     line_cut page c.loop-remaining.page c.loop-remaining.invariant.same row c.spans.result.now c.spans.ensures
     (g.O.Sink.told c.args.out.now) (g.O.Sink.told c.loop-remaining.out) (g.O.Sink.told c.put.new.out) _ _ _ front c.loop-remaining.invariant.so_far c.in-Err.ensures.part
@@ -90,7 +91,8 @@ returns-in-Err-clause-steps g c =
     let judges = g.J.Judge.judges in
     let s = (left_in c.args.rows.now).source in
     let row = (left_in c.advance.new.self).row in
-    let next = goes_on judges s (left_in c.loop-remaining.rows).source c.loop-remaining.invariant.source (left_in c.loop-remaining.rows).rest (left_in c.advance.new.self).rest row c.if-not-advance.ensures.next in
+    let next = goes_on judges s (left_in c.loop-remaining.rows).source c.loop-remaining.invariant.source (left_in c.loop-remaining.rows).rest
+    (left_in c.advance.new.self).rest row c.if-not-advance.ensures.next in
     let front = ap (first_rows c.loop-remaining.remaining) next ∙ c.loop-remaining-test.ensures.one row (passing_over judges s (left_in c.advance.new.self).rest) in
     let one = ap length next in
     let ahead = ap length front in
@@ -104,7 +106,8 @@ returns-in-Err-clause-steps g c =
 
 pub loop-remaining-smaller : goal.loop-remaining-smaller
 loop-remaining-smaller g c =
-    further g.J.Judge.judges (left_in c.loop-remaining.rows).source (left_in c.loop-remaining.rows).rest (left_in c.advance.new.self).rest (left_in c.advance.new.self).row c.advance.ensures.left c.if-not-advance.ensures.next
+    further g.J.Judge.judges (left_in c.loop-remaining.rows).source (left_in c.loop-remaining.rows).rest (left_in c.advance.new.self).rest
+    (left_in c.advance.new.self).row c.advance.ensures.left c.if-not-advance.ensures.next
 
 pub loop-remaining-preserved : goal.loop-remaining-preserved
 loop-remaining-preserved g c =
@@ -112,7 +115,8 @@ loop-remaining-preserved g c =
     let s = (left_in c.args.rows.now).source in
     let row = (left_in c.advance.new.self).row in
     let page = c.args.page.now in
-    let next = goes_on judges s (left_in c.loop-remaining.rows).source c.loop-remaining.invariant.source (left_in c.loop-remaining.rows).rest (left_in c.advance.new.self).rest row c.if-not-advance.ensures.next in
+    let next = goes_on judges s (left_in c.loop-remaining.rows).source c.loop-remaining.invariant.source (left_in c.loop-remaining.rows).rest
+    (left_in c.advance.new.self).rest row c.if-not-advance.ensures.next in
     let front = ap (first_rows c.loop-remaining.remaining) next ∙ c.loop-remaining-test.ensures.one row (passing_over judges s (left_in c.advance.new.self).rest) in
     let one = ap length next in
     let ahead = ap length front in
@@ -160,7 +164,8 @@ returns-clause-end g c =
     let same = c.loop-remaining.invariant.more in
     ends_after judges s (left_in c.loop-remaining.rows).source c.loop-remaining.invariant.source (left_in c.loop-remaining.rows).rest (left_in c.advance-more.new.self).rest
     (page_rows judges (left_in c.args.rows.now) c.args.limit) (coming judges (left_in c.args.rows.now))
-    (left_in c.advance-more.new.self).row c.last_row-last.result last c.advance-more.result _ c.advance-more.ensures.next c.advance-more.ensures.none (omega (arith, empty, same)) c.last_row-last.ensures
+    (left_in c.advance-more.new.self).row c.last_row-last.result last c.advance-more.result _ c.advance-more.ensures.next c.advance-more.ensures.none
+    (omega (arith, empty, same)) c.last_row-last.ensures
     (sym (ap (λ (rows : List SpanRow). page_end rows last) none) ∙ c.loop-remaining.invariant.end)
 
 pub returns-clause-steps : goal.returns-clause-steps
@@ -171,5 +176,6 @@ returns-clause-steps g c =
     let same = c.loop-remaining.invariant.more in
     last_try judges s (left_in c.loop-remaining.rows).source c.loop-remaining.invariant.source (left_in c.args.rows.now).rest (left_in c.loop-remaining.rows).rest
     (left_in c.advance-more.new.self).rest c.loop-remaining.invariant.tried c.advance-more.ensures.left
-    c.args.steps.now c.loop-remaining.steps c.advance-more.new.steps c.loop-remaining.invariant.steps (page_rows judges (left_in c.args.rows.now) c.args.limit) (left_in c.advance-more.new.self).row c.advance-more.result
+    c.args.steps.now c.loop-remaining.steps c.advance-more.new.steps c.loop-remaining.invariant.steps (page_rows judges (left_in c.args.rows.now) c.args.limit)
+    (left_in c.advance-more.new.self).row c.advance-more.result
     c.advance-more.ensures.next c.advance-more.ensures.none (omega (arith, none, same)) c.advance-more.ensures.steps

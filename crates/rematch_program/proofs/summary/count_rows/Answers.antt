@@ -69,5 +69,6 @@ returns-clause-steps g c =
     let inv = c.loop-row.invariant in
     trial_takes (checks_over g.J.Judge.judges s) s.names s.document (left_in c.args.rows.now).rest (length s.asked) c.args.steps.now
     c.next-in-loop-row.new.steps (length_checks (known s.tests g.J.Judge.judges) s.asked)
-    (took_none g.J.Judge.judges s (left_in c.loop-row.rows).source inv.source (left_in c.args.rows.now).rest (left_in c.loop-row.rows).rest (left_in c.next-in-loop-row.new.self).rest inv.tried c.in_default.ensures.left
+    (took_none g.J.Judge.judges s (left_in c.loop-row.rows).source inv.source (left_in c.args.rows.now).rest (left_in c.loop-row.rows).rest
+    (left_in c.next-in-loop-row.new.self).rest inv.tried c.in_default.ensures.left
     c.args.steps.now c.loop-row.steps c.next-in-loop-row.new.steps inv.steps false refl c.in_default.ensures.next.1 c.in_default.ensures.steps)

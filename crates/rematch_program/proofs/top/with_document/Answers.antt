@@ -35,7 +35,8 @@ returns-in-Ok g c =
     let out = change (g.O.Sink.told c.args.out.now) (g.O.Sink.told c.write_page.new.out) in
     let source = subst (λ (ns : List VarName). (left_in c.new-rows.result).source ≡ over asking.tested.now.asked asking.tests.now ns c.args.document.now) c.vars.ensures c.new-rows.ensures.source in
     record {
-      case = page_answered g.J.Judge.judges s c.in-Ok.answers.rest (left_in c.new-rows.result) source (ap (λ a. a.rest) c.new-rows.ensures.answers) (request_view asking.request.now) (query_of asking.compiled.query) out
+      case = page_answered g.J.Judge.judges s c.in-Ok.answers.rest (left_in c.new-rows.result) source (ap (λ a. a.rest) c.new-rows.ensures.answers)
+          (request_view asking.request.now) (query_of asking.compiled.query) out
           c.write_page.result.status (note_bytes c.write_page.result.note) c.args.steps.now c.begun.new.steps c.write_page.new.steps (option_copied c.args.after)
           c.requires.plain c.in-Ok.ensures.fits c.in-Ok.ensures.held c.in-Ok.ensures.left c.in-Ok.ensures.steps c.write_page.ensures.case;
     }

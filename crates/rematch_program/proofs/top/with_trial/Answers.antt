@@ -28,7 +28,8 @@ returns-in-Ok g c =
     let out = change (g.O.Sink.told c.args.out.now) (g.O.Sink.told c.write_summary.new.out) in
     let source = rw c.vars.ensures at c.new-rows.ensures.source in
     record {
-      case = trial_answered g.J.Judge.judges s c.in-Ok.answers.rest (left_in c.new-rows.result) source (ap (λ a. a.rest) c.new-rows.ensures.answers) (request_view asking.request.now) (query_of asking.compiled.query) out
+      case = trial_answered g.J.Judge.judges s c.in-Ok.answers.rest (left_in c.new-rows.result) source (ap (λ a. a.rest) c.new-rows.ensures.answers)
+          (request_view asking.request.now) (query_of asking.compiled.query) out
           c.write_summary.result.status (note_bytes c.write_summary.result.note) c.args.steps.now c.begun.new.steps c.write_summary.new.steps c.args.lines
           c.requires.trial c.in-Ok.ensures.held c.in-Ok.ensures.left c.in-Ok.ensures.steps c.write_summary.ensures.case;
     }

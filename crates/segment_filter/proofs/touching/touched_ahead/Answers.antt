@@ -1,4 +1,4 @@
-use Rattle.std.proofs.Common.{◌-◌, ◌≤◌, refl, subst, arith}
+use Rattle.std.proofs.Common.{◌-◌, ◌≤◌, refl, arith}
 use Rattle.segment_filter.specs.Weights.{IsFullWithin, reading_weight}
 use Rattle.set_table.specs.Tabled.{Tabled, fresh, weight}
 use Rattle.segment_filter.proofs.WeightLaws.{fresh_weighs}

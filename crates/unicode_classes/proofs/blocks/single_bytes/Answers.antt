@@ -1,4 +1,4 @@
-use Rattle.std.proofs.Common.{arith, ◌∙◌, refl, ap, subst, sym}
+use Rattle.std.proofs.Common.{arith, ◌∙◌, refl, ap}
 use Rattle.std.specs.Ordering.{nat_cmp}
 use Rattle.std.specs.FinSet.{FinSet, union}
 use Rattle.unicode_classes.proofs.SingleBytes.{AreShifted, shifted_first, shifted_more, shifted_end, byte_fits}

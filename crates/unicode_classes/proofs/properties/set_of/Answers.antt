@@ -1,4 +1,4 @@
-use Rattle.std.proofs.Common.{ℕ, [], sym, subst}
+use Rattle.std.proofs.Common.{ℕ, []}
 use Rattle.std.specs.Char.{IsScalar}
 use Rattle.std.specs.Prelude.{IsTrue, ◌↔◌}
 use Rattle.span_core.specs.Intervals.{Covers}

@@ -1,4 +1,4 @@
-use Rattle.std.proofs.Common.{◌<◌, take, get_or, inl, inr, refl, subst, ◌∙◌}
+use Rattle.std.proofs.Common.{◌<◌, take, get_or, inl, inr, refl, ◌∙◌}
 use Rattle.span_core.proofs.HasLaws.{Has-get_or, Has-take}
 use Rattle.marked_automaton.specs.declared.fault.SizeFault.{SizeFault}
 use Rattle.algebra.specs.Pairs.{IsStartRefusal}

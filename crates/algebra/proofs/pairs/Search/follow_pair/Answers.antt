@@ -1,4 +1,4 @@
-use Rattle.std.proofs.Common.{◌≡◌, ◌+◌, List, ◌++◌, take, drop, length, rules, refl, sym, subst, arith, ◌∙◌, append_assoc}
+use Rattle.std.proofs.Common.{◌≡◌, ◌+◌, List, ◌++◌, take, drop, length, rules, refl, sym, arith, ◌∙◌, append_assoc}
 use Rattle.std.specs.Prelude.{slice_get, Some}
 use Rattle.span_core.proofs.ListLaws.{get_left}
 use Rattle.marked_automaton.specs.declared.fault.SizeFault.{SizeFault}

@@ -1,4 +1,4 @@
-use Rattle.std.proofs.Common.{◌≡◌, ◌+◌, List, [], ◌∷◌, take, drop, refl, sym, subst}
+use Rattle.std.proofs.Common.{◌≡◌, ◌+◌, List, [], ◌∷◌, take, drop, refl}
 use Rattle.std.specs.Prelude.{slice_get, Some}
 use Rattle.span_core.proofs.ListLaws.{get_left}
 use Rattle.marked_automaton.specs.declared.fault.SizeFault.{SizeFault}

@@ -1,4 +1,4 @@
-use Rattle.std.proofs.Common.{◌<◌, length, map, sym, ap, ◌∙◌, subst, ℕ, List}
+use Rattle.std.proofs.Common.{◌<◌, length, map, ap, ◌∙◌, ℕ, List}
 use Rattle.span_core.specs.Lists.{Has}
 use Rattle.marked_automaton.specs.declared.way.Stop.{Stop}
 use Rattle.marked_automaton.specs.Automaton.{Automaton, IsBlockOf}

@@ -1,4 +1,4 @@
-use Rattle.std.proofs.Common.{inl, inr, refl, ap, ◌∙◌, subst}
+use Rattle.std.proofs.Common.{inl, inr, refl, ap, ◌∙◌}
 use Rattle.span_core.specs.Lists.{Has}
 use Rattle.place_automaton.specs.Sides.{Sides}
 use Rattle.place_automaton.proofs.fragment.Fragment.push_again.Goals as goal

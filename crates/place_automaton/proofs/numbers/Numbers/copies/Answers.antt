@@ -1,4 +1,4 @@
-use Rattle.std.proofs.Common.{sym, subst, add-one}
+use Rattle.std.proofs.Common.{add-one}
 use Rattle.span_core.specs.Lists.{Has}
 use Rattle.place_automaton.specs.Counts.{counts_copies}
 use Rattle.place_automaton.specs.Capped.{AreCapped}

@@ -1,4 +1,4 @@
-use Rattle.std.proofs.Common.{IfOk, sym, ap, subst, ◌∙◌}
+use Rattle.std.proofs.Common.{IfOk, ap, ◌∙◌}
 use Rattle.place_automaton.specs.Counts.{counts_plus, counts_repeated}
 use Rattle.place_automaton.specs.Capped.{AreCapped}
 use Rattle.place_automaton.proofs.numbers.Numbers.repeated.Goals as goal

@@ -1,4 +1,4 @@
-use Rattle.std.proofs.Common.{List, [], ◌⊎◌, ◌<◌, length, get_or, arith, sym, ap, ◌∙◌, subst}
+use Rattle.std.proofs.Common.{List, [], ◌⊎◌, ◌<◌, length, get_or, arith, sym, ap, ◌∙◌}
 use Rattle.span_core.specs.Lists.{Has}
 use Rattle.spanner_model.specs.Answers.{SpanRow}
 use Rattle.span_core.proofs.HasLaws.{Has-get_or}

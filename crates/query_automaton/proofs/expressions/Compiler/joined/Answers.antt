@@ -1,4 +1,4 @@
-use Rattle.std.proofs.Common.{◌≤◌, length, List, sym, subst, arith, ◌∙◌}
+use Rattle.std.proofs.Common.{◌≤◌, length, List, arith, ◌∙◌}
 use Rattle.spanner_model.specs.Captures.{VarName}
 use Rattle.marked_automaton.specs.Automaton.{Marked}
 use Rattle.marked_automaton.specs.Reduct.{Reduces, ReducesMarked}

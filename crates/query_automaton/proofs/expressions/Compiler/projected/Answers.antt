@@ -1,4 +1,4 @@
-use Rattle.std.proofs.Common.{List, length, sym, ap, ◌∙◌, subst, arith}
+use Rattle.std.proofs.Common.{List, length, ap, ◌∙◌, arith}
 use Rattle.span_core.specs.NameSets.{Ascending}
 use Rattle.spanner_model.specs.Captures.{VarName}
 use Rattle.marked_automaton.specs.Automaton.{IsMarked, Marked}

@@ -1,4 +1,4 @@
-use Rattle.std.proofs.Common.{sym, subst, ◌<◌, length}
+use Rattle.std.proofs.Common.{◌<◌, length}
 use Rattle.automaton_reading.specs.Reading.{byte_read}
 use Rattle.set_table.specs.Tabled.{Tabled, look_up}
 use Rattle.segment_filter.specs.Dense.{AreTold}
