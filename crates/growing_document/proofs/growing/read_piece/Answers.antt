@@ -8,8 +8,11 @@ take_up-old-requires g c = laid_there _ _ _ _ _ _ c.replace.ensures.value c.in-S
 pub read-requires : goal.read-requires
 read-requires g c = record {
   few =
-      at_most _ _ _ _ _ _ c.replace.ensures.value c.in-Some.is c.requires _ _ c.take_up-old.ensures
-      (omega (arith, c.len.ensures, c.if-seen-gt-MOST_BYTES.false));
+      omega (
+        arith,
+        at_most _ _ _ _ _ _ c.replace.ensures.value c.in-Some.is c.requires c.args.piece.now _ c.take_up-old.ensures
+            (omega (arith, c.len.ensures, c.if-seen-gt-MOST_BYTES.false)),
+      );
 }
 
 pub returns-in-Err-clause-fault : goal.returns-in-Err-clause-fault
