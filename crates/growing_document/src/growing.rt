@@ -203,9 +203,10 @@ fn append_to<L: Ledger>(
         Err(fault) => return Err(fault),
     };
     if let Err(_full) = document.extend_from_slice(piece) {
+        give_up(after);
         return Err(GrowFault::OutOfMemory);
     }
-    *reading = Some(after);
+    put_back(reading, after);
     Ok(())
 }
 
@@ -239,9 +240,10 @@ fn append_vec_to<L: Ledger>(
         Err(fault) => return Err(fault),
     };
     if let Err(fault) = keep(document, piece) {
+        give_up(after);
         return Err(fault);
     }
-    *reading = Some(after);
+    put_back(reading, after);
     Ok(())
 }
 
@@ -260,6 +262,16 @@ fn keep(document: &mut Vec<u8>, piece: Vec<u8>) -> Result<(), GrowFault>
         Err(_) => Err(GrowFault::OutOfMemory),
     }
 }
+
+/// Holds a reading again.
+fn put_back(reading: &mut Option<Laid>, after: Laid)
+    ensures { reading.new ≡ Some after }
+{
+    *reading = Some(after);
+}
+
+/// Drops a reading, here alone: what a caller has to prove grows with each of its many fields.
+fn give_up(_reading: Laid) {}
 
 /// Reads a piece behind the document, and gives the reading, which is taken away until the piece stands there.
 fn read_piece<L: Ledger>(
@@ -350,7 +362,7 @@ fn rows_of<L: Ledger>(
     let mut going = before.take_up(automaton);
     let listed = going.rows_so_far(alloc, steps);
     let after = going.lay_down();
-    *reading = Some(after);
+    put_back(reading, after);
     match listed {
         Ok(lists) => Ok(Enumerator::new(lists, automaton.vars().len())),
         Err(fault) => Err(grown_fault(fault)),
