@@ -5,7 +5,7 @@ use Rattle.std.specs.List.{filter, sum_by}
 use Rattle.std.specs.FinSet as bytes
 use Rattle.std.proofs.Math.Seq.{get_or-append_right}
 use Rattle.std.proofs.lemmas.Bool.{cases_lt}
-use Rattle.std.proofs.lemmas.List.{length-set, length-replicate, get_or-replicate, get_or-set_same, get_or-set_other, get_or_append_left, get_or_past, get_or_read, map-append, take_all}
+use Rattle.std.proofs.lemmas.List.{length-set, length-replicate, get_or-replicate, get_or-set_same, get_or-set_other, get_or_append_left, get_or_past, get_or_read, length-map, map-append, take_all}
 use Rattle.std.proofs.lemmas.List.Sums.{sum_by-append}
 use Rattle.std.proofs.lemmas.Option.{slice_get-get_or}
 use Rattle.span_core.specs.declared.edge.Edge.{Edge}
@@ -416,10 +416,10 @@ held_fresh A sets answers es ends numbers start w whole is one no_answers no_edg
 
 -- ---- the number of a question
 
-pub number_found : (A : Automaton) (sets : List (List ℕ)) (answers : List Answer) (es : List Edge) (ends numbers : List ℕ) (w k : ℕ) (q : TableQuestion) (n : ℕ) →
+number_found : {A : Automaton} {sets : List (List ℕ)} {answers : List Answer} {es : List Edge} {ends numbers : List ℕ} {w k n : ℕ} (q : TableQuestion) →
     IsHeld A sets answers es ends numbers w → k < length sets → IsQuestion q → get_or numbers (place_in k q) 0 ≡ n → (n ≡ 0 → ⊥) →
     slice_get (look_ups_of sets answers) (n - 1) ≡ Some (record { set = set_at sets k; ask = question_of q })
-number_found A sets answers es ends numbers w k q n held l h e some =
+number_found {sets = sets} {answers = answers} {numbers = numbers} {k = k} {n = n} q held l h e some =
     let less : 0 < n = positive n some in
     let at : get_or numbers (place_in k q) 0 ≡ suc (n - 1) = e ∙ (let g : n ≡ suc (n - 1) = omega (arith, less) in g) in
     let f = held.found k q (n - 1) l h at in
@@ -429,9 +429,9 @@ number_found A sets answers es ends numbers w k q n held l h e some =
     positive zero o = absurd (o refl)
     positive (suc m) o = omega arith
 
-pub number_absent : (A : Automaton) (sets : List (List ℕ)) (answers : List Answer) (es : List Edge) (ends numbers : List ℕ) (w k : ℕ) (q : TableQuestion) →
+number_absent : {A : Automaton} {sets : List (List ℕ)} {answers : List Answer} {es : List Edge} {ends numbers : List ℕ} {w k : ℕ} (q : TableQuestion) →
     IsHeld A sets answers es ends numbers w → k < length sets → get_or numbers (place_in k q) 0 ≡ 0 → ¬ Has (look_ups_of sets answers) (record { set = set_at sets k; ask = question_of q })
-number_absent A sets answers es ends numbers w k q held within e h =
+number_absent {sets = sets} {answers = answers} {numbers = numbers} {k = k} q held within e h =
     let r : LookUp = record { set = set_at sets k; ask = question_of q } in
     let y = Has-map_cases (look_up_of sets) answers r h in
     let p = place_of-Has answers y.0 y.1 in
@@ -440,6 +440,18 @@ number_absent A sets answers es ends numbers w k q held within e h =
     let there : get_or numbers (place_in k q) 0 ≡ suc p.0 = (λ i. get_or numbers (place_in (sym set i) (sym question i)) 0) ∙ held.there p.0 y.0 p.2 in
     let z : 0 ≡ suc p.0 = sym e ∙ there in
     omega (arith, z)
+
+-- a number that is not 0 is that of the look-up at its place
+pub look_up_found : {M : Marked} {limit w : ℕ} {s : Store} {t : Tabled} {k p n : ℕ} (q : TableQuestion) → IsSound M limit w s → tabled M.graph limit s ≡ t → k < length t.sets →
+    IsQuestion q → p ≡ place_in k q → n ≡ get_or s.numbers p 0 → (n ≡ 0 → ⊥) → slice_get t.look_ups (n - 1) ≡ Some (look_up t k (question_of q))
+look_up_found {s = s} q sound is within h place at some =
+    rw (← is) (number_found q sound.held (rw (← is) at within) h (sym (at ∙ ap (λ p. get_or s.numbers p 0) place)) some)
+
+-- and where it is 0, there is none
+pub look_up_absent : {M : Marked} {limit w : ℕ} {s : Store} {t : Tabled} {k p n : ℕ} (q : TableQuestion) → IsSound M limit w s → tabled M.graph limit s ≡ t → k < length t.sets →
+    p ≡ place_in k q → n ≡ get_or s.numbers p 0 → n ≡ 0 → ¬ Has t.look_ups (look_up t k (question_of q))
+look_up_absent {s = s} q sound is within place at none =
+    rw (← is) (number_absent q sound.held (rw (← is) at within) (sym (at ∙ ap (λ p. get_or s.numbers p 0) place) ∙ none))
 
 -- ---- what is true of each table
 
@@ -513,14 +525,14 @@ edged sets es ends Rest f c h = (refl, refl)
 edged sets es ends Ends f c h = absurd (h refl)
 
 -- the edges of an answer
-pub edges_within : (A : Automaton) (sets : List (List ℕ)) (answers : List Answer) (es : List Edge) (ends numbers : List ℕ) (w : ℕ) (x : Answer) →
+edges_within : {A : Automaton} {sets : List (List ℕ)} {answers : List Answer} {es : List Edge} {ends numbers : List ℕ} {w : ℕ} (x : Answer) →
     IsHeld A sets answers es ends numbers w → Has answers x → (x.question ≡ Ends → ⊥) → x.first + x.count ≤ length es
-edges_within A sets answers es ends numbers w x held h o = let a = held.answered x h in let e = edged sets es ends x.question x.first x.count o in omega (arith, a.within, e.1)
+edges_within {sets = sets} {es = es} {ends = ends} x held h o = let a = held.answered x h in let e = edged sets es ends x.question x.first x.count o in omega (arith, a.within, e.1)
 
-pub edges_are : (A : Automaton) (limit : ℕ) (sets : List (List ℕ)) (answers : List Answer) (es : List Edge) (ends numbers : List ℕ) (w : ℕ) (x : Answer) (cs : List Edge) →
+pub edges_are : {A : Automaton} (limit : ℕ) {sets : List (List ℕ)} {answers : List Answer} {es : List Edge} {ends numbers : List ℕ} {w : ℕ} (x : Answer) {cs : List Edge} →
     IsHeld A sets answers es ends numbers w → Has answers x → (x.question ≡ Ends → ⊥) → cs ≡ part x.first x.count es →
     HasEdges (record { graph = A; limit = limit; sets = sets; look_ups = look_ups_of sets answers }) (look_up_of sets x) cs
-edges_are A limit sets answers es ends numbers w x cs held h o is =
+edges_are {A = A} limit {sets = sets} {es = es} {ends = ends} x {cs = cs} held h o is =
     let a = held.answered x h in
     let e = edged sets es ends x.question x.first x.count o in
     let named : map (edge_named sets) cs ≡ edges A (set_at sets x.set) (question_of x.question) = ap (map (edge_named sets)) is ∙ (sym e.0 ∙ a.is) in
@@ -539,14 +551,14 @@ ended_in sets es ends (Byte b) f c h = absurd (cc)
 ended_in sets es ends Rest f c h = absurd (cc)
 ended_in sets es ends Ends f c h = (refl, refl)
 
-pub ends_within : (A : Automaton) (sets : List (List ℕ)) (answers : List Answer) (es : List Edge) (ends numbers : List ℕ) (w : ℕ) (x : Answer) →
+ends_within : {A : Automaton} {sets : List (List ℕ)} {answers : List Answer} {es : List Edge} {ends numbers : List ℕ} {w : ℕ} (x : Answer) →
     IsHeld A sets answers es ends numbers w → Has answers x → x.question ≡ Ends → x.first + x.count ≤ length ends
-ends_within A sets answers es ends numbers w x held h o = let a = held.answered x h in let e = ended_in sets es ends x.question x.first x.count o in omega (arith, a.within, e.1)
+ends_within {sets = sets} {es = es} {ends = ends} x held h o = let a = held.answered x h in let e = ended_in sets es ends x.question x.first x.count o in omega (arith, a.within, e.1)
 
-pub ends_are : (A : Automaton) (limit : ℕ) (sets : List (List ℕ)) (answers : List Answer) (es : List Edge) (ends numbers : List ℕ) (w : ℕ) (x : Answer) (ms : List ℕ) →
+ends_are : {A : Automaton} (limit : ℕ) {sets : List (List ℕ)} {answers : List Answer} {es : List Edge} {ends numbers : List ℕ} {w : ℕ} (x : Answer) {ms : List ℕ} →
     IsHeld A sets answers es ends numbers w → Has answers x → x.question ≡ Ends → ms ≡ part x.first x.count ends →
     HasEnds (record { graph = A; limit = limit; sets = sets; look_ups = look_ups_of sets answers }) (look_up_of sets x) ms
-ends_are A limit sets answers es ends numbers w x ms held h o is =
+ends_are {A = A} limit {sets = sets} {es = es} {ends = ends} x {ms = ms} held h o is =
     let a = held.answered x h in
     let e = ended_in sets es ends x.question x.first x.count o in
     let named : map end_reach ms ≡ edges A (set_at sets x.set) (question_of x.question) = ap (map end_reach) is ∙ (sym e.0 ∙ a.is) in
@@ -555,9 +567,46 @@ ends_are A limit sets answers es ends numbers w x ms held h o is =
       order = marks_down ms (subst (λ (zs : List Reach). IsInOrder Above (map (λ (r : Reach). r.marks) zs)) (sym named) (edges_down A (set_at sets x.set) (question_of x.question)));
     }
 
--- the answer that is read at a number
-pub answer_read : (answers : List Answer) (i : ℕ) (x : Answer) → x ≡ get_or answers i x → i < length answers → slice_get answers i ≡ Some x
-answer_read answers i x e l = slice_get-get_or answers i x l ∙ ap Some (sym e)
+-- the answer that is read at the number of a look-up
+module _ {M : Marked} {limit w : ℕ} {s : Store} {t : Tabled} {n : ℕ} {x : Answer} (sound : IsSound M limit w s) (is : tabled M.graph limit s ≡ t) (within : n < length t.look_ups)
+    (read : x ≡ get_or s.answers.items n x) where
+  answer_read : slice_get s.answers.items n ≡ Some x
+  answer_read =
+      let l : n < length (look_ups_of s.lists.sets s.answers.items) = rw (← is) at within in
+      slice_get-get_or s.answers.items n x (omega (arith, l, length-map s.answers.items (look_up_of s.lists.sets))) ∙ ap Some (sym read)
+
+  answer_has : Has s.answers.items x
+  answer_has = Has-slice_get s.answers.items n x answer_read
+
+  answer_asked : slice_get t.look_ups n ≡ Some (look_up_of s.lists.sets x)
+  answer_asked = rw (← is) (get_map (look_up_of s.lists.sets) s.answers.items n x answer_read)
+
+  answer_same : (r : LookUp) → slice_get t.look_ups n ≡ Some r → look_up_of s.lists.sets x ≡ r
+  answer_same r h = some_same (look_up_of s.lists.sets x) r (sym answer_asked ∙ h)
+
+  module _ (edges : (r : LookUp) → slice_get t.look_ups n ≡ Some r → r.ask ≡ ended → ⊥) where
+    no_ends : x.question ≡ Ends → ⊥
+    no_ends e = edges (look_up_of s.lists.sets x) answer_asked (ap question_of e)
+
+    -- its edges are there
+    pub edges_there : x.first + x.count ≤ length s.lists.edges.items
+    edges_there = edges_within x sound.held answer_has no_ends
+
+    -- and are those of the look-up
+    pub edges_told : {cs : List Edge} → cs ≡ part x.first x.count s.lists.edges.items → (r : LookUp) → slice_get t.look_ups n ≡ Some r → HasEdges t r cs
+    edges_told at r h = rw (← is, ← answer_same r h) (edges_are limit x sound.held answer_has no_ends at)
+
+  module _ (ends : (r : LookUp) → slice_get t.look_ups n ≡ Some r → r.ask ≡ ended) where
+    are_ends : x.question ≡ Ends
+    are_ends = same_question x.question Ends (ends (look_up_of s.lists.sets x) answer_asked)
+
+    -- its ends are there
+    pub ends_there : x.first + x.count ≤ length s.lists.ends.items
+    ends_there = ends_within x sound.held answer_has are_ends
+
+    -- and are those of the look-up
+    pub ends_told : {ms : List ℕ} → ms ≡ part x.first x.count s.lists.ends.items → (r : LookUp) → slice_get t.look_ups n ≡ Some r → HasEnds t r ms
+    ends_told at r h = rw (← is, ← answer_same r h) (ends_are limit x sound.held answer_has are_ends at)
 
 -- ---- the rest
 

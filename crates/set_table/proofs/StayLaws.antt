@@ -104,7 +104,7 @@ module _ (A : Automaton) (limit : ℕ) (sets0 sets : List (List ℕ)) (answers0 
       record { byte = h.byte; asked = subst (Has (look_ups_of sets (answers0 ++ x ∷ []))) same there; stays = still k h.byte l h.stays }
 
   the_edges : (b : ℕ) → x.question ≡ Byte b → HasEdges New (look_up_of sets x) (part x.first x.count es)
-  the_edges b q = edges_are A limit sets (answers0 ++ x ∷ []) es ends numbers w x (part x.first x.count es) held (Has-append_right answers0 (x ∷ []) x (inl refl)) (λ e. differ (sym q ∙ e)) refl
+  the_edges b q = edges_are limit x held (Has-append_right answers0 (x ∷ []) x (inl refl)) (λ e. differ (sym q ∙ e)) refl
     where
       differ : Byte b ≡ Ends → ⊥
       differ e = cc
