@@ -119,34 +119,36 @@ drop_head {A = A} (x ∷ xs) zero a h e = ap (λ (y : A). y ∷ xs) (sym e) ∙ 
     none (y ∷ ys) = refl
 drop_head (x ∷ xs) (suc i) a h e = drop_head xs i a (omega arith) e
 
--- this code is left of one, and what it does leads on
-pub record IsRunning (sources : Layer) (at : ℕ) (Then : Point → Type 0) (code : List Instruction) (held : List Register) (registers : Layer)
+-- this code is left from instruction i on, and what it does leads on
+pub record IsRunning (sources : Layer) (at : ℕ) (Then : Point → Type 0) (code : List Instruction) (i : ℕ) (held : List Register) (registers : Layer)
     (cells : List NamedLink) (holds : Holds) (now : ℕ) : Type 0 where
   pub symbols : List Register
   pub left : List Action
   pub made : List ℕ
   pub are : AreHeld sources made symbols registers
-  pub does : DoesAll symbols (length made) code left held
+  pub does : DoesAll symbols (length made) (drop i code) left held
   pub leads : Leads sources at Then left (point made cells holds now)
 
-pub running_head : {sources : Layer} {at : ℕ} {Then : Point → Type 0} {held : List Register} {registers : Layer} {cells : List NamedLink}
-    {holds : Holds} {now : ℕ} (code : List Instruction) (i : ℕ) (a b : Instruction) →
-    IsRunning sources at Then (drop i code) held registers cells holds now → i < length code → a ≡ get_or code i a → a ≡ b →
-    IsRunning sources at Then (b ∷ drop (suc i) code) held registers cells holds now
-running_head {sources} {at} {Then} {held} {registers} {cells} {holds} {now} code i a b run h item is =
-    subst (λ (x : Instruction). IsRunning sources at Then (x ∷ drop (suc i) code) held registers cells holds now) is
-    (subst (λ (xs : List Instruction). IsRunning sources at Then xs held registers cells holds now) (drop_head code i a h item) run)
+-- instruction i, which is next
+module _ {sources : Layer} {at : ℕ} {Then : Point → Type 0} {code : List Instruction} {i : ℕ} {held : List Register} {registers : Layer} {cells : List NamedLink} {holds : Holds} {now : ℕ}
+    (run : IsRunning sources at Then code i held registers cells holds now) {a : Instruction} (within : i < length code) (item : a ≡ get_or code i a) where
+  head_does : (b : Instruction) → a ≡ b → DoesAll run.symbols (length run.made) (b ∷ drop (i + 1) code) run.left held
+  head_does b is =
+      let next : drop i code ≡ b ∷ drop (i + 1) code = drop_head code i a within item ∙ (λ j. is j ∷ drop (sym (add-one i) j) code) in
+      subst (λ (xs : List Instruction). DoesAll run.symbols (length run.made) xs run.left held) next run.does
 
-module _ {sources : Layer} {at : ℕ} {Then : Point → Type 0} {code : List Instruction} {held : List Register} {registers : Layer} {cells : List NamedLink} {holds : Holds} {now : ℕ} where
-  module _ {m : Making} (run : IsRunning sources at Then (Create m ∷ code) held registers cells holds now) where
+  module _ {m : Making} (is : a ≡ Create m) where
+    abbrev does : DoesAll run.symbols (length run.made) (Create m ∷ drop (i + 1) code) run.left held
+    does = head_does (Create m) is
+
     abbrev link : Link
-    link = run.does.0
+    link = does.0
 
     making : IsMaking run.symbols m link
-    making = run.does.3
+    making = does.3
 
-    led : Leads sources at Then (Make link ∷ run.does.1) (point run.made cells holds now)
-    led = subst (λ (xs : List Action). Leads sources at Then xs (point run.made cells holds now)) run.does.2 run.leads
+    led : Leads sources at Then (Make link ∷ does.1) (point run.made cells holds now)
+    led = subst (λ (xs : List Action). Leads sources at Then xs (point run.made cells holds now)) does.2 run.leads
 
     pub create_from : m.from < length registers
     create_from = symbol_within sources run.made run.symbols registers m.from (Kept link.from) run.are making.from
@@ -154,7 +156,7 @@ module _ {sources : Layer} {at : ℕ} {Then : Point → Type 0} {code : List Ins
     pub create_also : IfSome m.also (λ r. r < length registers)
     create_also = also_within sources run.made run.symbols registers m.also link.also run.are making.also
 
-    module _ (c : ℕ) (from : slice_get (cells_in registers) m.from ≡ Some c) (o : Option ℕ) (also : o ≡ cell_at registers m.also) where
+    module _ {c : ℕ} (from : slice_get (cells_in registers) m.from ≡ Some c) {o : Option ℕ} (also : o ≡ cell_at registers m.also) where
       from_is : led.0 ≡ c
       from_is = same_Some led.0 c (sym led.1 ∙ (sym (symbol_cell sources run.made run.symbols registers m.from (Kept link.from) run.are making.from) ∙ from))
 
@@ -169,10 +171,10 @@ module _ {sources : Layer} {at : ℕ} {Then : Point → Type 0} {code : List Ins
           subst (λ (x : Option ℕ). IfSome x (λ b. (hold holds b ≡ 1) × (b ≡ c → ⊥))) also_is
           (subst (λ (n : ℕ). IfSome (also_in sources run.made link.also) (λ b. (hold holds b ≡ 1) × (b ≡ n → ⊥))) from_is led.4)
 
-      pub create_next : (name : ℕ) → (HasCell cells name → ⊥) → (after : Layer) (cells_after : List NamedLink) (holds_after : Holds) (later : ℕ) → after ≡ with_cell registers m.to name →
+      pub create_next : (name : ℕ) → (HasCell cells name → ⊥) → {after : Layer} {cells_after : List NamedLink} {holds_after : Holds} {later : ℕ} → after ≡ with_cell registers m.to name →
           cells_after ≡ new_link name at m.marks c o ∷ cells → holds_after ≡ with_hold (less_hold holds o) name 1 → later ≡ now + 1 →
-          IsRunning sources at Then code held after cells_after holds_after later
-      create_next name fresh after cells_after holds_after later after_is cells_is holds_is later_is =
+          IsRunning sources at Then code (i + 1) held after cells_after holds_after later
+      create_next name fresh {cells_after = cells_after} {holds_after = holds_after} after_is cells_is holds_is later_is =
           let more : List ℕ = run.made ++ name ∷ [] in
           let b : Option ℕ = also_in sources run.made link.also in
           let long : suc (length run.made) ≡ length more = omega (arith, length-append run.made (name ∷ [])) in
@@ -182,55 +184,62 @@ module _ {sources : Layer} {at : ℕ} {Then : Point → Type 0} {code : List Ins
           let holds_same : with_hold (less_hold holds b) name 1 ≡ holds_after = ap (λ (x : Option ℕ). with_hold (less_hold holds x) name 1) also_is ∙ sym holds_is in
           record {
             symbols = put run.symbols m.to (Made (length run.made));
-            left = run.does.1;
+            left = does.1;
             made = more;
             are = subst (λ (l : Layer). AreHeld sources more (put run.symbols m.to (Made (length run.made))) l) (sym after_is)
                 (held_with sources more run.symbols registers m.to name (Made (length run.made))
                 (held_more sources run.made name run.symbols registers run.are) (made_there run.made name (length run.made) refl));
-            does = subst (λ n. DoesAll (put run.symbols m.to (Made (length run.made))) n code run.does.1 held) long run.does.4;
-            leads = subst (λ (t : Point). Leads sources at Then run.does.1 t) (λ i. point more (cells_same i) (holds_same i) (sym later_is i)) (led.5 name fresh);
+            does = subst (λ n. DoesAll (put run.symbols m.to (Made (length run.made))) n (drop (i + 1) code) does.1 held) long does.4;
+            leads = subst (λ (t : Point). Leads sources at Then does.1 t) (λ j. point more (cells_same j) (holds_same j) (sym later_is j)) (led.5 name fresh);
           }
 
-  module _ {r : ℕ} (run : IsRunning sources at Then (Free r ∷ code) held registers cells holds now) where
-    freed : Leads sources at Then (Release run.does.0 ∷ run.does.1) (point run.made cells holds now)
-    freed = subst (λ (xs : List Action). Leads sources at Then xs (point run.made cells holds now)) run.does.2 run.leads
+  module _ {r : ℕ} (is : a ≡ Free r) where
+    abbrev done : DoesAll run.symbols (length run.made) (Free r ∷ drop (i + 1) code) run.left held
+    done = head_does (Free r) is
+
+    freed : Leads sources at Then (Release done.0 ∷ done.1) (point run.made cells holds now)
+    freed = subst (λ (xs : List Action). Leads sources at Then xs (point run.made cells holds now)) done.2 run.leads
 
     pub free_within : r < length registers
-    free_within = symbol_within sources run.made run.symbols registers r (Kept run.does.0) run.are run.does.3
+    free_within = symbol_within sources run.made run.symbols registers r (Kept done.0) run.are done.3
 
-    module _ (c : ℕ) (from : slice_get (cells_in registers) r ≡ Some c) where
+    module _ {c : ℕ} (from : slice_get (cells_in registers) r ≡ Some c) where
       freed_is : freed.0 ≡ c
-      freed_is = same_Some freed.0 c (sym freed.1 ∙ (sym (symbol_cell sources run.made run.symbols registers r (Kept run.does.0) run.are run.does.3) ∙ from))
+      freed_is = same_Some freed.0 c (sym freed.1 ∙ (sym (symbol_cell sources run.made run.symbols registers r (Kept done.0) run.are done.3) ∙ from))
 
       pub free_held : 0 < hold holds c
       free_held = subst (λ n. 0 < hold holds n) freed_is freed.2
 
-      pub free_next : (cells_after : List NamedLink) (holds_after : Holds) (later : ℕ) → holds_after ≡ with_hold holds c (hold holds c - 1) → Released holds_after cells cells_after → now < later →
-          later + length cells_after ≤ now + 1 + length cells → IsRunning sources at Then code held registers cells_after holds_after later
-      free_next cells_after holds_after later holds_is released lt le =
+      pub free_next : {cells_after : List NamedLink} {holds_after : Holds} {later : ℕ} → holds_after ≡ with_hold holds c (hold holds c - 1) → Released holds_after cells cells_after →
+          now < later → later + length cells_after ≤ now + 1 + length cells → IsRunning sources at Then code (i + 1) held registers cells_after holds_after later
+      free_next {cells_after = cells_after} {holds_after = holds_after} {later = later} holds_is released lt le =
           let same : holds_after ≡ with_hold holds freed.0 (hold holds freed.0 - 1) = holds_is ∙ ap (λ n. with_hold holds n (hold holds n - 1)) (sym freed_is) in
           record {
             symbols = run.symbols;
-            left = run.does.1;
+            left = done.1;
             made = run.made;
             are = run.are;
-            does = run.does.4;
-            leads = subst (λ (h : Holds). Leads sources at Then run.does.1 (point run.made cells_after h later)) (sym same)
+            does = done.4;
+            leads = subst (λ (h : Holds). Leads sources at Then done.1 (point run.made cells_after h later)) (sym same)
                 (freed.3 cells_after later (subst (λ (h : Holds). Released h cells cells_after) same released) lt le);
           }
 
-  module _ {m : Shifting} (run : IsRunning sources at Then (Shift m ∷ code) held registers cells holds now) where
-    pub shift_within : m.from < length registers
-    shift_within = symbol_within sources run.made run.symbols registers m.from run.does.0 run.are run.does.1
+  module _ {m : Shifting} (is : a ≡ Shift m) where
+    abbrev moves : DoesAll run.symbols (length run.made) (Shift m ∷ drop (i + 1) code) run.left held
+    moves = head_does (Shift m) is
 
-    pub shift_next : (c : ℕ) → slice_get (cells_in registers) m.from ≡ Some c → (after : Layer) → after ≡ with_cell registers m.to c → IsRunning sources at Then code held after cells holds now
-    shift_next c from after after_is = record {
-      symbols = put run.symbols m.to run.does.0;
+    pub shift_within : m.from < length registers
+    shift_within = symbol_within sources run.made run.symbols registers m.from moves.0 run.are moves.1
+
+    pub shift_next : {c : ℕ} → slice_get (cells_in registers) m.from ≡ Some c → {after : Layer} → after ≡ with_cell registers m.to c →
+        IsRunning sources at Then code (i + 1) held after cells holds now
+    shift_next {c = c} from after_is = record {
+      symbols = put run.symbols m.to moves.0;
       left = run.left;
       made = run.made;
-      are = subst (λ (l : Layer). AreHeld sources run.made (put run.symbols m.to run.does.0) l) (sym after_is)
-          (held_with sources run.made run.symbols registers m.to c run.does.0 run.are (sym (symbol_cell sources run.made run.symbols registers m.from run.does.0 run.are run.does.1) ∙ from));
-      does = run.does.2;
+      are = rw after_is (held_with sources run.made run.symbols registers m.to c moves.0 run.are
+          (sym (symbol_cell sources run.made run.symbols registers m.from moves.0 run.are moves.1) ∙ from));
+      does = moves.2;
       leads = run.leads;
     }
 
@@ -264,10 +273,10 @@ pub own_sets : (registers : Layer) → take (length registers) (sets_of register
 own_sets [] = refl
 own_sets (p ∷ registers) = ap (λ xs. p.0 ∷ xs) (own_sets registers)
 
-pub come_end : (first : Graph) (at : ℕ) (p : Plan) (before : ℕ) (code : List Instruction) (i : ℕ) {registers : Layer} {cells : List NamedLink} {holds : Holds} {now : ℕ} (after : ℕ) →
-    IsRunning first.layer at (Runs first at p before) (drop i code) p.held.items registers cells holds now → length code ≤ i →
+pub come_end : (first : Graph) (at : ℕ) (p : Plan) (before : ℕ) {code : List Instruction} {i : ℕ} {registers : Layer} {cells : List NamedLink} {holds : Holds} {now after : ℕ} →
+    IsRunning first.layer at (Runs first at p before) code i p.held.items registers cells holds now → length code ≤ i →
     after ≡ now + length p.counts.items → HasCome first at p before registers cells holds after
-come_end first at p before code i {registers} {cells} {holds} {now} after run all later =
+come_end first at p before {code} {i} {registers} {cells} {holds} {now} run all later =
     let does : DoesAll run.symbols (length run.made) [] run.left p.held.items =
     subst (λ (xs : List Instruction). DoesAll run.symbols (length run.made) xs run.left p.held.items) (drop_all i code all) run.does in
     let done : HasRun first at p before run.made cells holds (now + length p.counts.items) =

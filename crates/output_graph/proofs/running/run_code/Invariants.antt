@@ -1,4 +1,4 @@
-use Rattle.std.proofs.Common.{◌≡◌, ◌≤◌, ◌+◌, [], length, drop, take}
+use Rattle.std.proofs.Common.{◌≡◌, ◌≤◌, ◌+◌, [], length, take}
 use Rattle.std.specs.Vec.{vec_len, vec_capacity}
 use Rattle.output_graph.specs.Graph.{sets_of}
 use Rattle.output_graph.specs.Running.{Runs}
@@ -9,7 +9,7 @@ use Rattle.output_graph.proofs.running.run_code.Given as goal
 abbrev pub invariant-loop-instruction : goal.invariant-loop-instruction
 invariant-loop-instruction g l = record {
   running : IsRunning l.fn.registers.sources.items l.at (Runs (graph_of l.fn.arena.cells l.fn.registers.sources.items [] 0 l.was) l.at l.lists.plan.now.value l.fn.steps)
-      (drop l.instruction-index l.lists.code.now) l.lists.plan.now.value.held.items l.registers.sources.items l.arena.cells l.arena.holds l.steps;
+      l.lists.code.now l.instruction-index l.lists.plan.now.value.held.items l.registers.sources.items l.arena.cells l.arena.holds l.steps;
   names : take (length l.fn.registers.sources.items) (sets_of l.registers.sources.items) ≡ sets_of l.fn.registers.sources.items;
   longer : length l.fn.registers.sources.items ≤ length l.registers.sources.items;
   spare : l.fn.arena.spare ≤ l.arena.spare + l.instruction-index;
