@@ -12,7 +12,7 @@ use Rattle.node_arena.specs.Copies.{renamed, renamed_one, IsOneToOne, IsCopy}
 use Rattle.node_arena.proofs.CopyLaws.{copy_there, copy_of, some_renamed}
 use Rattle.output_graph.specs.Grown.{past, past_at, Closes, IsOpen, IsEarlier, AreGrown}
 use Rattle.output_graph.specs.Forward.{Layer, cell_of}
-use Rattle.output_graph.specs.Graph.{Graph, Source, source_of, sets_of}
+use Rattle.output_graph.specs.Graph.{Graph, Source, source_of, sources, sets_of}
 use Rattle.output_graph.specs.Sound.{IsSound, left_cells}
 use Rattle.output_graph.specs.Sets.{paired, cells_in}
 use Rattle.output_graph.proofs.WordLemmas.{words_here, words_other, past_at_here, past_at_other}
@@ -266,15 +266,17 @@ paired_all pairs cells n e same =
     ap₂ (λ (x y : ℕ). paired (take x pairs) (take y cells)) e (e ∙ sym same) ∙ ap₂ (λ (ps : Layer) (cs : List ℕ). paired ps cs) (take-length pairs) (take-length cells)
 
 -- a graph and its copy
-pub record IsCopied (cells copies : List NamedLink) (layer after : Layer) (holds : Holds) : Type 0 where
+pub record IsCopied (g : Graph) (copies : List NamedLink) (after : Layer) (holds : Holds) : Type 0 where
   pub sound : IsSound (record { cells = copies; layer = after; next = []; stepped = 0; at = 0 }) holds
-  pub sources_same : map (source_of copies) after ≡ map (source_of cells) layer
-  pub many : length copies ≡ length cells
+  pub sources_same : map (source_of copies) after ≡ sources g
+  pub many : length copies ≡ length g.cells
 
-pub copy_done : (g : Graph) (old new : Cells) (before names after : List ℕ) (layer : Layer) (copy : ℕ → ℕ) → IsSound g old.holds → g.stepped ≡ 0 →
-    g.cells ≡ old.cells → IsCopy copy old new before names →
-    IsArena new → before ≡ cells_in g.layer → after ≡ names → layer ≡ paired g.layer after → IsCopied g.cells new.cells g.layer layer new.holds
-copy_done g old new before names after layer copy sound start same is arena eb ea el =
+-- a graph that is seen as t is copied
+pub copy_done : {g t : Graph} {old new : Cells} {before names after : List ℕ} {layer : Layer} → IsSound g old.holds → g ≡ t → t.stepped ≡ 0 →
+    g.cells ≡ old.cells → (copy : ℕ → ℕ) × IsCopy copy old new before names →
+    IsArena new → before ≡ cells_in g.layer → after ≡ names → layer ≡ paired g.layer after → IsCopied t new.cells layer new.holds
+copy_done {g} {t} {old} {new} {layer = layer} sound seen begun same (copy, is) arena eb ea el =
+    let start : g.stepped ≡ 0 = ap (λ (x : Graph). x.stepped) seen ∙ begun in
     let one : IsOneToOne copy g.cells = subst (λ (cs : List NamedLink). IsOneToOne copy cs) (sym same) is.one_to_one in
     let i = now_is_layer g old.holds sound start in
     let copies : new.cells ≡ map (renamed copy) g.cells = is.cells ∙ ap (λ (cs : List NamedLink). map (renamed copy) cs) (sym same) in
@@ -288,19 +290,20 @@ copy_done g old new before names after layer copy sound start same is arena eb e
     let P : List NamedLink → Layer → Type 0 = λ cs l. IsLayer cs l new.holds in
     record {
       sound = layer_sound new.cells layer 0 new.holds (subst (λ (cs : List NamedLink). P cs layer) (sym copies) (subst (λ (l : Layer). P (map (renamed copy) g.cells) l) (sym made) new_layer));
-      sources_same = ap₂ (λ (cs : List NamedLink) (l : Layer). map (source_of cs) l) copies made ∙ sources_copied copy g.cells g.layer one i.grown there;
-      many = ap length copies ∙ length-map g.cells (renamed copy);
+      sources_same = ap₂ (λ (cs : List NamedLink) (l : Layer). map (source_of cs) l) copies made
+          ∙ (sources_copied copy g.cells g.layer one i.grown there ∙ (ap (λ n. map (source_of g.cells) (drop n g.layer)) (sym start) ∙ ap sources seen));
+      many = ap length copies ∙ (length-map g.cells (renamed copy) ∙ ap (λ (x : Graph). length x.cells) seen);
     }
 
 -- the sets of a layer have cells
-pub layer_there : (g : Graph) (holds : Holds) (names : List ℕ) → IsSound g holds → g.stepped ≡ 0 → names ≡ cells_in g.layer → (c : ℕ) → Has names c → HasCell g.cells c
-layer_there g holds names sound start e c h =
+pub layer_there : {g : Graph} {holds : Holds} {names : List ℕ} → IsSound g holds → g.stepped ≡ 0 → names ≡ cells_in g.layer → (c : ℕ) → Has names c → HasCell g.cells c
+layer_there {g} {holds} sound start e c h =
     let i = now_is_layer g holds sound start in
     let r = set_of_cell g.layer c i.sets (subst (λ (xs : List ℕ). Has xs c) e h) in
     i.there r.0 c r.1
 
 -- and as many copies
-pub names_many : (copy : ℕ → ℕ) (old new : Cells) (before names after : List ℕ) (layer : Layer) → IsCopy copy old new before names →
+pub names_many : {copy : ℕ → ℕ} {old new : Cells} {before names after : List ℕ} (layer : Layer) → IsCopy copy old new before names →
     before ≡ cells_in layer → after ≡ names → length after ≡ length layer
-names_many copy old new before names after layer is eb ea =
+names_many {copy = copy} layer is eb ea =
     ap length (ea ∙ (is.names ∙ ap (λ (xs : List ℕ). map copy xs) eb)) ∙ (length-map (cells_in layer) copy ∙ length-map layer (λ (p : ℕ × ℕ). p.1))
