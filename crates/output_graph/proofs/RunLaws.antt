@@ -65,7 +65,7 @@ module _ (sources : Layer) (at k c : ℕ) (Then : Point → Type 0) (later : Lis
     λ cells_after after run lt le.
         let ended : HasEnded at c whole cells next holds cells_after next_mid (with_hold holds_mid c (hold holds_mid c - 1)) =
         subst (λ (w : Edges). HasEnded at c w cells next holds cells_after next_mid (with_hold holds_mid c (hold holds_mid c - 1))) (sym m.split)
-        (made_ends at c es cells next holds cells_mid next_mid holds_mid m.so_far [] cells_after next_mid (with_hold holds_mid c (hold holds_mid c - 1))
+        (made_ends m.so_far
         (none_ends at c cells_mid cells_after next_mid holds_mid (with_hold holds_mid c (hold holds_mid c - 1)) refl run)) in
         let many = ap length m.split ∙ length-append es [] in
         let more = m.so_far.more in
@@ -82,7 +82,7 @@ module _ (sources : Layer) (at k c : ℕ) (Then : Point → Type 0) (later : Lis
       Leads sources at Then (((acts true k s m ++ actions_after k (moved true k s m) rest) ++ release_of (true || keeps k (moved true k s m) rest) k) ++ later) (point made cells_mid holds_mid now)
   handed_mid es m (x ∷ rest) s made cells_mid next_mid holds_mid now mid on_it =
       let marks : m.marks ≡ 0 = is_eq m.marks 0 (and_parts (nat_eq m.marks 0) (nat_eq m.place (length s.held)) on_it).0 in
-      let none = ap length (last_edge at c m.marks m.to (edges_in (x ∷ rest)) cells_mid next_mid holds_mid marks mid.can) in
+      let none = ap length (last_edge marks mid.can) in
       absurd (omega arith)
   handed_mid es m [] s made cells_mid next_mid holds_mid now mid on_it =
       let tests = and_parts (nat_eq m.marks 0) (nat_eq m.place (length s.held)) on_it in
@@ -92,8 +92,7 @@ module _ (sources : Layer) (at k c : ℕ) (Then : Point → Type 0) (later : Lis
       let split : whole ≡ es ++ (0, m.to) ∷ [] = mid.split ∙ ap (λ (n : ℕ). es ++ (n, m.to) ∷ []) marks in
       let ended : HasEnded at c whole cells next holds cells_mid (set_cell next_mid m.to c) holds_mid =
       subst (λ (w : Edges). HasEnded at c w cells next holds cells_mid (set_cell next_mid m.to c) holds_mid) (sym split)
-      (made_ends at c es cells next holds cells_mid next_mid holds_mid mid.so_far ((0, m.to) ∷ []) cells_mid (set_cell next_mid m.to c) holds_mid
-      (moved_ends at c m.to cells_mid next_mid holds_mid free)) in
+      (made_ends mid.so_far (moved_ends at c m.to cells_mid next_mid holds_mid free)) in
       let many = ap length split ∙ length-append es ((0, m.to) ∷ []) in
       let more = mid.so_far.more in
       let counted = mid.counted in
@@ -129,14 +128,14 @@ module _ (sources : Layer) (at k c : ℕ) (Then : Point → Type 0) (later : Lis
       IsMid es (m ∷ rest) s made cells_mid next_mid holds_mid now → hands_on s.held m ≡ false → m.marks ≡ 0 →
       Leads sources at Then (((acts false k s m ++ actions_after k (moved false k s m) rest) ++ release_of (false || keeps k (moved false k s m) rest) k) ++ later) (point made cells_mid holds_mid now)
   joined_mid es m (x ∷ rest) s made cells_mid next_mid holds_mid now mid off_it marks =
-      let none = ap length (last_edge at c m.marks m.to (edges_in (x ∷ rest)) cells_mid next_mid holds_mid marks mid.can) in
+      let none = ap length (last_edge marks mid.can) in
       absurd (omega arith)
   joined_mid es m [] s made cells_mid next_mid holds_mid now mid off_it marks =
       let other : m.place ≡ length s.held → ⊥ =
       is_ne m.place (length s.held) (not_both (nat_eq m.place (length s.held)) (subst (λ (b : Bool). (b && nat_eq m.place (length s.held)) ≡ false) (eq-eqb m.marks 0 marks) off_it)) in
       let taken : Has (sets_of next_mid) m.to =
       place_taken next_mid m.to (λ e. other (mid.placed.0 ∙ (e ∙ sym (held_length sources made s.held next_mid mid.held)))) in
-      let can : CanEnd at c ((0, m.to) ∷ []) cells_mid next_mid holds_mid = can_last at c m.marks m.to [] cells_mid next_mid holds_mid marks mid.can in
+      let can : CanEnd at c ((0, m.to) ∷ []) cells_mid next_mid holds_mid = can_last marks mid.can in
       let split : whole ≡ es ++ (0, m.to) ∷ [] = mid.split ∙ ap (λ (n : ℕ). es ++ (n, m.to) ∷ []) marks in
       let is : moved false k s m ≡ fin = ap (λ (b : Bool). moved b k s m) (sym off_it) ∙ mid.places in
       makes_mid es m [] s made cells_mid next_mid holds_mid now mid (Release k ∷ later) (λ name fresh.
@@ -148,7 +147,7 @@ module _ (sources : Layer) (at k c : ℕ) (Then : Point → Type 0) (later : Lis
         λ cells_after after run lt le.
             let ended : HasEnded at c whole cells next holds cells_after (set_cell next_mid m.to name) (with_hold held c (hold held c - 1)) =
             subst (λ (w : Edges). HasEnded at c w cells next holds cells_after (set_cell next_mid m.to name) (with_hold held c (hold held c - 1))) (sym split)
-            (made_ends at c es cells next holds cells_mid next_mid holds_mid mid.so_far ((0, m.to) ∷ []) cells_after (set_cell next_mid m.to name) (with_hold held c (hold held c - 1))
+            (made_ends mid.so_far
             (joined_ends at c m.marks m.to name cells_mid link cells_after next_mid (set_cell next_mid m.to name) holds_mid held
             (with_hold held c (hold held c - 1)) marks fresh refl refl refl refl run taken)) in
             let many = ap length split ∙ length-append es ((0, m.to) ∷ []) in
@@ -176,14 +175,13 @@ module _ (sources : Layer) (at k c : ℕ) (Then : Point → Type 0) (later : Lis
       let link : List NamedLink = new_link name at m.marks c (cell_of next_mid m.to) ∷ cells_mid in
       let held : Holds = with_hold (less_hold holds_mid (cell_of next_mid m.to)) name 1 in
       let more : HasMade at c (es ++ (m.marks, m.to) ∷ []) cells next holds link (set_cell next_mid m.to name) held =
-      made_more at c es cells next holds cells_mid next_mid holds_mid mid.so_far m.marks m.to name link (set_cell next_mid m.to name) held some fresh refl refl refl in
+      made_more mid.so_far m.marks m.to name some fresh refl refl refl in
       let one : HasMade at c ((m.marks, m.to) ∷ []) cells_mid next_mid holds_mid link (set_cell next_mid m.to name) held =
-      made_more at c [] cells_mid next_mid holds_mid cells_mid next_mid holds_mid (made_none at c cells_mid next_mid holds_mid) m.marks m.to name link
-      (set_cell next_mid m.to name) held some fresh refl refl refl in
+      made_more (made_none at c cells_mid next_mid holds_mid) m.marks m.to name some fresh refl refl refl in
       go (es ++ (m.marks, m.to) ∷ []) (moved false k s m) (made ++ name ∷ []) link (set_cell next_mid m.to name) held (now + 1) (record {
         split = mid.split ∙ sym (append_assoc es ((m.marks, m.to) ∷ []) (edges_in rest));
         so_far = more;
-        can = can_now at c ((m.marks, m.to) ∷ []) cells_mid next_mid holds_mid link (set_cell next_mid m.to name) held one (edges_in rest) mid.can;
+        can = can_now one (edges_in rest) refl mid.can;
         placed = subst (λ (ss : List ℕ). ArePlaced ss rest) (sym (sets_with next_mid m.to name)) mid.placed.1;
         targets = ap (λ (ss : List ℕ). targets_from ss rest) (sets_with next_mid m.to name) ∙ mid.targets;
         held = held_put sources (made ++ name ∷ []) s.held next_mid m.place m.to name (Made s.made)

@@ -15,7 +15,7 @@ covered_more es all m t known known_after is old le lt e h = elim (Has-append_ca
 
 pub loop-edge-preserved : goal.loop-edge-preserved
 loop-edge-preserved c =
-    let more = edges_more c.args.edges.now c.loop-edge.edge-index c.edge-item.result (omega arith) c.edge-item.is in
+    let more = edges_more c.args.edges.now c.loop-edge.edge-index (omega arith) c.edge-item.is in
     let i = c.loop-edge.invariant in
     let r = c.cover.ensures.room in
     let room = i.room in
