@@ -76,8 +76,8 @@ module _ (sources : Layer) (first : Graph) (at : ℕ) (groups : List Edges) (bef
       now (edges_in mine) (targets_from (sets_of next) mine) (places_after k s mine)
       (λ cells_after next_after holds_after made_after after ended spent more sets_after held_after count_after.
       let new : Graph = graph_of cells_after sources next_after (k + 1) at in
-      let sound : IsSound new holds_after = sound_after here holds going.sound p there at going.place (edges_in mine) falls cells_after next_after holds_after ended in
-      let step : IsStepped here at (edges_in mine) new = is_stepped here holds going.sound p there at going.place (edges_in mine) falls cells_after next_after holds_after ended in
+      let sound : IsSound new holds_after = sound_after going.sound there going.place (edges_in mine) falls ended in
+      let step : IsStepped here at (edges_in mine) new = is_stepped going.sound there going.place (edges_in mine) falls ended in
       let cost : IsCost (length (edges_in mine)) (length cells) (length cells_after) (now + k) (after + (k + 1)) =
       is_cost (length (edges_in mine)) (length cells) (length cells_after) (now + k) (after + (k + 1)) (spent_later (length (edges_in mine)) (length cells) (length cells_after) now after k spent) in
       let apart : AreApart (targets new) = targets_apart new holds_after sound in
@@ -103,7 +103,7 @@ module _ (sources : Layer) (first : Graph) (at : ℕ) (groups : List Edges) (bef
       [] mine s made cells next holds now (record {
         split = refl;
         so_far = made_none at p.1 cells next holds;
-        can = can_step here holds going.sound p there at going.place (edges_in mine) falls;
+        can = can_step going.sound there going.place (edges_in mine) falls;
         placed = placed_take (sets_of next) left n going.placed;
         targets = refl;
         held = going.held;

@@ -1,17 +1,18 @@
 -- A position past all words of the layer is past all blocks of the cells: each cell is reached from the layer, so its block stands in a word.
-use Rattle.std.proofs.Common.{◌≡◌, ◌↔◌, ℕ, ◌+◌, ◌<◌, ◌≤◌, max, Bool, true, false, List, [], ◌∷◌, ◌++◌, drop, Option, Some, None, inl, inr, refl, sym, ap, ◌∙◌, subst, arith, if◌then◌else◌, nat_eq, eq-eqb}
+use Rattle.std.proofs.Common.{◌≡◌, ◌↔◌, ℕ, ◌+◌, ◌<◌, ◌≤◌, max, Bool, true, false, List, [], ◌∷◌, ◌++◌, drop, slice_get, Option, Some, None, inl, inr, refl, sym, ap, ◌∙◌, subst, arith, if◌then◌else◌, nat_eq, eq-eqb}
 use Rattle.std.proofs.lemmas.Bool.{cases_eq}
 use Rattle.span_core.specs.Lists.{Has}
 use Rattle.node_arena.specs.Words.{Word, words, words_from, words_also, block_of}
 use Rattle.node_arena.specs.Cells.{NamedLink, HasCell, Holds, hold, Names, IsLive, held, named}
 use Rattle.output_graph.specs.Grown.{past, AreGrown}
 use Rattle.output_graph.specs.Forward.{Layer, cell_of}
-use Rattle.output_graph.specs.Graph.{Graph, sources, source_of, IsPast, IsPlace}
-use Rattle.output_graph.specs.Sound.{IsPlaceOf, IsSound}
+use Rattle.output_graph.specs.Graph.{Graph, sources, source_of, IsPast, IsPlace, IsStepped}
+use Rattle.output_graph.specs.Source.{Edges, Descend}
+use Rattle.output_graph.specs.Sound.{CanEnd, HasEnded, IsPlaceOf, IsSound, graph_of}
 use Rattle.span_core.proofs.HasLaws.{Has-append_left, Has-append_right, Has-map_cases}
 use Rattle.output_graph.proofs.WordLemmas.{words_here, words_other, other_name}
 use Rattle.output_graph.proofs.WordCases.{word_by_also, word_by_from, block_some}
-use Rattle.output_graph.proofs.SteppedLaws.{has_source}
+use Rattle.output_graph.proofs.SteppedLaws.{can_step, has_source, is_stepped, sound_after}
 
 -- what a cell names is there
 pub named_there : (cells : List NamedLink) (l : NamedLink) (k : ℕ) → AreGrown cells → Has cells l → Names l k → HasCell cells k
@@ -120,3 +121,28 @@ module _ (g : Graph) (holds : Holds) (sound : IsSound g holds) (live : (c : ℕ)
   pub place_of : IsPlace g at → IsPlaceOf g at
   place_of (inl a) = inl (a.0, past_le g.cells at (λ l hl some. first_marked a.0 a.1 l hl some l.from refl))
   place_of (inr b) = inr b
+
+-- source k of a graph that is seen as t, the first that is left
+module _ {g t : Graph} {holds : Holds} (sound : IsSound g holds) (seen : g ≡ t) (live : (c : ℕ) → HasCell g.cells c ↔ IsLive holds g.cells c) {k : ℕ} (source : k ≡ t.stepped)
+    {p : ℕ × ℕ} (there : slice_get g.layer k ≡ Some p) {at : ℕ} (place : IsPlace t at) (edges : Edges) (descend : Descend edges) where
+  same : k ≡ g.stepped
+  same = source ∙ sym (ap (λ (x : Graph). x.stepped) seen)
+
+  first : slice_get g.layer g.stepped ≡ Some p
+  first = rw same at there
+
+  here : IsPlaceOf g at
+  here = place_of g holds sound live at (subst (λ (x : Graph). IsPlace x at) (sym seen) place)
+
+  -- its edges may be made
+  pub source_can : CanEnd at p.1 edges g.cells g.next holds
+  source_can = can_step sound first here edges descend
+
+  module _ {cells : List NamedLink} {next : Layer} {holds_after : Holds} (ended : HasEnded at p.1 edges g.cells g.next holds cells next holds_after) where
+    -- once they are made, the graph is sound
+    pub source_sound : IsSound (graph_of cells g.layer next (k + 1) at) holds_after
+    source_sound = rw same (sound_after sound first here edges descend ended)
+
+    -- and has been stepped
+    pub source_stepped : IsStepped t at edges (graph_of cells g.layer next (k + 1) at)
+    source_stepped = rw (← seen, same) (is_stepped sound first here edges descend ended)

@@ -105,7 +105,7 @@ amid_of S left after W at c edges done cells next holds is among are distinct de
     }
 
 -- source k, the first that is left
-module _ (g : Graph) (holds : Holds) (sound : IsSound g holds) (p : ℕ × ℕ) (there : slice_get g.layer g.stepped ≡ Some p) (at : ℕ)
+module _ {g : Graph} {holds : Holds} (sound : IsSound g holds) {p : ℕ × ℕ} (there : slice_get g.layer g.stepped ≡ Some p) {at : ℕ}
     (place : IsPlaceOf g at) (edges : Edges) (descend : Descend edges) where
   abbrev c : ℕ
   c = p.1
@@ -125,7 +125,7 @@ module _ (g : Graph) (holds : Holds) (sound : IsSound g holds) (p : ℕ × ℕ) 
   pub can_step : CanEnd at c edges g.cells g.next holds
   can_step = (ready.sources, cells_of rest, ready.W, ready.done, amid)
 
-  module _ (cells : List NamedLink) (next : Layer) (holds_after : Holds) (ended : HasEnded at c edges g.cells g.next holds cells next holds_after) where
+  module _ {cells : List NamedLink} {next : Layer} {holds_after : Holds} (ended : HasEnded at c edges g.cells g.next holds cells next holds_after) where
     abbrev new : Graph
     new = record { cells = cells; layer = g.layer; next = next; stepped = g.stepped + 1; at = at }
 
