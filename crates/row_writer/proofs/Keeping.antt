@@ -111,6 +111,10 @@ heads_at (f ∷ fields) (suc k) d l =
     let e : suc (k + 1) ≡ suc k + 1 = omega arith in
     heads_at fields k d (omega arith) ∙ ap (λ n. (get_or fields k d).head ∷ drop n (f.head ∷ heads_of fields)) e
 
+-- and it does so where the fields' heads are these
+pub heads_next : (fields : List Field) (k : ℕ) (d : Field) {heads : List Head} → heads_of fields ≡ heads → k < length fields → drop k heads ≡ (get_or fields k d).head ∷ drop (k + 1) heads
+heads_next fields k d same l = rw same at (heads_at fields k d l)
+
 pub length_heads : (fields : List Field) → length (heads_of fields) ≡ length fields
 length_heads [] = refl
 length_heads (f ∷ fields) = let e = length_heads fields in omega arith

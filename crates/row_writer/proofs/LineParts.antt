@@ -83,7 +83,7 @@ front_parts doc (h ∷ heads) (x ∷ row) (suc k) start head more e l =
     ∙ ap (λ (xs : List ℕ). h.before ++ xs) (sym (append_assoc cell rest half)) ∙ sym (append_assoc h.before (cell ++ rest) half)
 
 pub back_parts : (doc : List ℕ) (heads : List Head) (row : List (Option Span)) (k : ℕ) (s : Span) (head : Head) (more : List Head) → drop k heads ≡ head ∷ more → slice_get row k ≡ Some (Some s)
-    → behind_end doc heads row k ≡ span_rest head.style doc false s ++ cells_text doc false more (drop (suc k) row)
+    → behind_end doc heads row k ≡ span_rest head.style doc false s ++ cells_text doc false more (drop (k + 1) row)
 back_parts doc [] row zero s head more e is = absurd cc
 back_parts doc [] row (suc k) s head more e is = absurd cc
 back_parts doc (h ∷ heads) [] k s head more e is = absurd cc
@@ -94,7 +94,9 @@ back_parts doc (h ∷ heads) (Some a ∷ row) zero s head more e is =
     let others : heads ≡ more = cc in
     ap₂ (λ (g : Head) (t : Span). span_rest g.style doc false t ++ cells_text doc false heads row) own same
     ∙ ap (λ (hs : List Head). span_rest head.style doc false s ++ cells_text doc false hs row) others
-back_parts doc (h ∷ heads) (x ∷ row) (suc k) s head more e is = back_parts doc heads row k s head more e is
+back_parts doc (h ∷ heads) (x ∷ row) (suc k) s head more e is =
+    let next : suc k + 1 ≡ suc (k + 1) = omega arith in
+    rw next (back_parts doc heads row k s head more e is)
 
 -- ---- where they are written
 
@@ -104,11 +106,17 @@ rises at r old new text inside is =
     let e = ap (λ (xs : List ℕ). length xs) is in
     omega (arith, e, length-take r new, length-append (take at old) text, length-take-le at old inside)
 
+-- what three pieces come to that were written one behind the other, the second up to a place and the third behind it
+pub record Pieces (f n e : ℕ) (b1 b4 digits rest cells : List ℕ) : Type 0 where
+  pub behind : n ≤ e
+  pub front : take f b4 ≡ take f b1
+  pub number : take n b4 ≡ take f b4 ++ digits
+  pub back : take e b4 ≡ take n b4 ++ (rest ++ cells)
+
 -- three pieces more, and what stands before them stays
-pub parts_written : (f n r e : ℕ) (b1 b2 b3 b4 digits rest cells : List ℕ) → f ≤ length b1 → n ≤ length b2 → r ≤ length b3
-    → take n b2 ≡ take f b1 ++ digits → take r b3 ≡ take n b2 ++ rest → take e b4 ≡ take r b3 ++ cells
-    → (take f b4 ≡ take f b1) × ((take n b4 ≡ take f b4 ++ digits) × (take e b4 ≡ take n b4 ++ (rest ++ cells)))
-parts_written f n r e b1 b2 b3 b4 digits rest cells inf inn inr one two three =
+pub parts_written : (f n r e : ℕ) (b1 b2 b3 b4 : List ℕ) {digits rest cells : List ℕ} → take n b2 ≡ take f b1 ++ digits → take r b3 ≡ take n b2 ++ rest → take e b4 ≡ take r b3 ++ cells
+    → f ≤ length b1 → n ≤ length b2 → r ≤ length b3 → Pieces f n e b1 b4 digits rest cells
+parts_written f n r e b1 b2 b3 b4 {digits} {rest} {cells} one two three inf inn inr =
     let fn = rises f n b1 b2 digits inf one in
     let nr = rises n r b2 b3 rest inn two in
     let re = rises r e b3 b4 cells inr three in
@@ -116,13 +124,13 @@ parts_written f n r e b1 b2 b3 b4 digits rest cells inf inn inr one two three =
     let own : n ≤ n = omega arith in
     let fr : f ≤ r = omega (arith, fn, nr) in
     let front : take f b4 ≡ take f b1 = front_kept f r e b3 b4 cells fr re inr three ∙ front_kept f n r b2 b3 rest fn nr inn two ∙ front_kept f f n b1 b2 digits self fn inf one in
-    let number : take n b4 ≡ take n b2 = front_kept n r e b3 b4 cells nr re inr three ∙ front_kept n n r b2 b3 rest own nr inn two in (
-      front,
-      (
-        number ∙ one ∙ ap (λ (xs : List ℕ). xs ++ digits) (sym front),
-        three ∙ ap (λ (xs : List ℕ). xs ++ cells) two ∙ append_assoc (take n b2) rest cells ∙ ap (λ (xs : List ℕ). xs ++ (rest ++ cells)) (sym number),
-      ),
-    )
+    let number : take n b4 ≡ take n b2 = front_kept n r e b3 b4 cells nr re inr three ∙ front_kept n n r b2 b3 rest own nr inn two in
+    record {
+      behind = omega (arith, nr, re);
+      front = front;
+      number = number ∙ one ∙ ap (λ (xs : List ℕ). xs ++ digits) (sym front);
+      back = three ∙ ap (λ (xs : List ℕ). xs ++ cells) two ∙ append_assoc (take n b2) rest cells ∙ ap (λ (xs : List ℕ). xs ++ (rest ++ cells)) (sym number);
+    }
 
 -- what stands between two places
 pub piece_of : (at e : ℕ) (old new text : List ℕ) → at ≤ length old → at ≤ e → take e new ≡ take at old ++ text → take (e - at) (drop at new) ≡ text
