@@ -1,9 +1,15 @@
 -- Fields that are kept.
 use Rattle.std.proofs.Common.{◌≡◌, ℕ, zero, suc, ◌+◌, ◌<◌, ◌≤◌, Bool, List, [], ◌∷◌, ◌++◌, length, take, drop, set, get_or, refl, sym, ap, ap₂, ◌∙◌, zero-add, append_assoc, arith, Option}
-use Rattle.std.proofs.lemmas.List.{take-take, take-append-le, length-take-le}
+use Rattle.std.proofs.lemmas.List.{drop_all, drop_more, take-take, take-append-le, length-append, length-take, length-take-le}
 use Rattle.span_core.specs.declared.span.Span.{Span}
 use Rattle.row_writer.specs.declared.style.Style.TheVariants as style
 use Rattle.row_writer.specs.Kept.{Field, Head, cells_text, head_with, heads_of, line_room, member_head, more_members, more_names, more_tabs, quote_room, styled_cell}
+
+-- a position at which was written on is no higher than the new end
+pub rises : (old new text : List ℕ) {at r : ℕ} → take r new ≡ take at old ++ text → at ≤ length old → at ≤ r
+rises old new text {at} {r} is inside =
+    let e = ap (λ (xs : List ℕ). length xs) is in
+    omega (arith, e, length-take r new, length-append (take at old) text, length-take-le at old inside)
 
 -- what stands before a place stays where something is written from there on
 pub front_kept : (k at end : ℕ) (old new text : List ℕ) → k ≤ at → at ≤ end → at ≤ length old → take end new ≡ take at old ++ text → take k new ≡ take k old
@@ -65,20 +71,31 @@ pub record Parts (h f m l sign : ℕ) (o ds de head bytes : List ℕ) : Type 0 w
   pub all : take l bytes ≡ take f bytes ++ (ds ++ sign ∷ de)
 
 -- both numbers are written behind what opens them
-pub parts_renewed : (h f e m l sign : ℕ) (o ds de b0 b1 b2 b3 : List ℕ) → h ≤ f → f ≤ e → e ≤ m → m ≤ l → f ≤ length b0 → e ≤ length b1 → m ≤ length b2
+pub parts_renewed : (e : ℕ) (b0 b1 b2 : List ℕ) {h f m l sign : ℕ} {o ds de b3 : List ℕ}
     → take f b0 ≡ take h b0 ++ o → take e b1 ≡ take f b0 ++ ds → take m b2 ≡ take e b1 ++ sign ∷ [] → take l b3 ≡ take m b2 ++ de
-    → Parts h f m l sign o ds de (take h b0) b3
-parts_renewed h f e m l sign o ds de b0 b1 b2 b3 hf fe em ml in0 in1 in2 front first between last =
-    let t = renewed sign f e m l b0 b1 b2 b3 ds de fe em ml in0 in1 in2 first between last in
+    → h ≤ f → f ≤ length b0 → e ≤ length b1 → m ≤ length b2 → Parts h f m l sign o ds de (take h b0) b3
+parts_renewed e b0 b1 b2 {h} {f} {m} {l} {sign} {o} {ds} {de} {b3} front first between last hf in0 in1 in2 =
+    let t = renewed sign f e m l b0 b1 b2 b3 ds de (rises b0 b1 ds first in0) (rises b1 b2 (sign ∷ []) between in1) (rises b2 b3 de last in2) in0 in1 in2 first between last in
     let same = shorter h f b0 b3 hf t.0 in
     record { same = same; front = t.0 ∙ front ∙ ap (λ (xs : List ℕ). xs ++ o) (sym same); half = t.1.0; all = t.1.1 }
 
--- or the second alone
-pub parts_end : (h f m l sign : ℕ) (o ds de b0 b3 : List ℕ) → h ≤ f → f ≤ m → m ≤ l → m ≤ length b0
+-- or what opens them is written too, behind a head
+pub parts_opened : (h e : ℕ) (bytes b0 b1 b2 : List ℕ) {f m l sign : ℕ} {o ds de b3 : List ℕ}
+    → take f b0 ≡ take h bytes ++ o → take e b1 ≡ take f b0 ++ ds → take m b2 ≡ take e b1 ++ sign ∷ [] → take l b3 ≡ take m b2 ++ de
+    → h ≤ length bytes → f ≤ length b0 → e ≤ length b1 → m ≤ length b2 → Parts h f m l sign o ds de (take h bytes) b3
+parts_opened h e bytes b0 b1 b2 {f} {m} {l} {sign} {o} {ds} {de} {b3} front first between last inside in0 in1 in2 =
+    let low : h ≤ f = rises bytes b0 o front inside in
+    let self : h ≤ h = omega arith in
+    let same : take h b0 ≡ take h bytes = front_kept h h f bytes b0 o self low inside front in
+    let t = parts_renewed e b0 b1 b2 (front ∙ ap (λ (xs : List ℕ). xs ++ o) (sym same)) first between last low in0 in1 in2 in
+    record { same = t.same ∙ same; front = t.front; half = t.half; all = t.all }
+
+-- or the second number alone is written
+pub parts_end : (b0 : List ℕ) {h f m l sign : ℕ} {o ds de b3 : List ℕ}
     → take f b0 ≡ take h b0 ++ o → take m b0 ≡ take f b0 ++ (ds ++ sign ∷ []) → take l b3 ≡ take m b0 ++ de
-    → Parts h f m l sign o ds de (take h b0) b3
-parts_end h f m l sign o ds de b0 b3 hf fm ml in0 front half last =
-    let t = end_renewed sign f m l b0 b3 ds de fm ml in0 half last in
+    → h ≤ f → f ≤ m → m ≤ length b0 → Parts h f m l sign o ds de (take h b0) b3
+parts_end b0 {h} {f} {m} {l} {sign} {o} {ds} {de} {b3} front half last hf fm in0 =
+    let t = end_renewed sign f m l b0 b3 ds de fm (rises b0 b3 de last in0) in0 half last in
     let same = shorter h f b0 b3 hf t.0 in
     record { same = same; front = t.0 ∙ front ∙ ap (λ (xs : List ℕ). xs ++ o) (sym same); half = t.1.0; all = t.1.1 }
 
@@ -112,7 +129,8 @@ heads_at (f ∷ fields) (suc k) d l =
     heads_at fields k d (omega arith) ∙ ap (λ n. (get_or fields k d).head ∷ drop n (f.head ∷ heads_of fields)) e
 
 -- and it does so where the fields' heads are these
-pub heads_next : (fields : List Field) (k : ℕ) (d : Field) {heads : List Head} → heads_of fields ≡ heads → k < length fields → drop k heads ≡ (get_or fields k d).head ∷ drop (k + 1) heads
+pub heads_next : (fields : List Field) (k : ℕ) (d : Field) {heads : List Head} → heads_of fields ≡ heads → k < length fields
+    → drop k heads ≡ (get_or fields k d).head ∷ drop (k + 1) heads
 heads_next fields k d same l = rw same at (heads_at fields k d l)
 
 pub length_heads : (fields : List Field) → length (heads_of fields) ≡ length fields
@@ -123,21 +141,33 @@ pub heads_append : (fields : List Field) (f : Field) → heads_of (fields ++ f �
 heads_append [] f = refl
 heads_append (g ∷ fields) f = ap (λ (heads : List Head). g.head ∷ heads) (heads_append fields f)
 
--- one field more is written
-pub cells_more : (doc : List ℕ) (texts : Bool) (before after : List ℕ) (head : Head) (heads heads' : List Head) (row row' : List (Option Span)) (span : Option Span) (whole : List ℕ) →
-    heads ≡ head ∷ heads' → row ≡ span ∷ row' → after ≡ before ++ (head.before ++ styled_cell head.style doc texts span) →
-    before ++ cells_text doc texts heads row ≡ whole → after ++ cells_text doc texts heads' row' ≡ whole
-cells_more doc texts before after head heads heads' row row' span whole e f g h =
-    let cell = styled_cell head.style doc texts span in
-    let rest = cells_text doc texts heads' row' in
-    let all : cells_text doc texts heads row ≡ head.before ++ (cell ++ rest) =
-    ap₂ (λ (hs : List Head) (r : List (Option Span)). cells_text doc texts hs r) e f in
-    ap (λ (xs : List ℕ). xs ++ rest) g ∙ append_assoc before (head.before ++ cell) rest
-    ∙ ap (λ (xs : List ℕ). before ++ xs) (append_assoc head.before cell rest ∙ sym all) ∙ h
+-- what is left of a row begins with what is read there
+row_at : {X : Type 0} (row : List X) (k : ℕ) (x : X) → k < length row → x ≡ get_or row k x → drop k row ≡ x ∷ drop (k + 1) row
+row_at row k x l is = drop_more row k x l ∙ ap (λ y. y ∷ drop (k + 1) row) (sym is)
 
-pub room_more : (texts : Bool) (head : Head) (heads heads' : List Head) (row row' : List (Option Span)) (span : Option Span) → heads ≡ head ∷ heads' → row ≡ span ∷ row' →
-    line_room texts heads row ≡ (64 + quote_room head.style texts span) + line_room texts heads' row'
-room_more texts head heads heads' row row' span e f = ap₂ (λ (hs : List Head) (r : List (Option Span)). line_room texts hs r) e f
+-- one field more is written
+pub cells_next : (doc : List ℕ) (texts : Bool) (before : List ℕ) (fields : List Field) (row : List (Option Span)) (k : ℕ) (d : Field)
+    {heads : List Head} {span : Option Span} {after whole : List ℕ}
+    → heads_of fields ≡ heads → k < length fields → k < length row → span ≡ get_or row k span
+    → after ≡ before ++ ((get_or fields k d).head.before ++ styled_cell (get_or fields k d).head.style doc texts span)
+    → before ++ cells_text doc texts (drop k heads) (drop k row) ≡ whole → after ++ cells_text doc texts (drop (k + 1) heads) (drop (k + 1) row) ≡ whole
+cells_next doc texts before fields row k d {heads} {span} same n l is more whole =
+    let head = (get_or fields k d).head in
+    let cell = styled_cell head.style doc texts span in
+    let rest = cells_text doc texts (drop (k + 1) heads) (drop (k + 1) row) in
+    let all = ap₂ (cells_text doc texts) (heads_next fields k d same n) (row_at row k span l is) in
+    ap (λ (xs : List ℕ). xs ++ rest) more ∙ append_assoc before (head.before ++ cell) rest
+    ∙ ap (λ (xs : List ℕ). before ++ xs) (append_assoc head.before cell rest ∙ sym all) ∙ whole
+
+-- the room of the fields from a place on is that of the field there and of those behind it
+pub room_next : (texts : Bool) (fields : List Field) (row : List (Option Span)) (k : ℕ) (d : Field) {heads : List Head} {span : Option Span}
+    → heads_of fields ≡ heads → k < length fields → k < length row → span ≡ get_or row k span
+    → line_room texts (drop k heads) (drop k row) ≡ (64 + quote_room (get_or fields k d).head.style texts span) + line_room texts (drop (k + 1) heads) (drop (k + 1) row)
+room_next texts fields row k d {heads} {span} same n l is = ap₂ (line_room texts) (heads_next fields k d same n) (row_at row k span l is)
+
+-- no head is left behind the last field
+pub no_heads : (fields : List Field) (k : ℕ) → length fields ≤ k → drop k (heads_of fields) ≡ []
+no_heads fields k past = drop_all k (heads_of fields) (omega (arith, length_heads fields))
 
 -- a head more is kept
 head_more : (heads : List Head) (head : Head) (more new whole : List Head) → new ≡ heads ++ head ∷ [] → heads ++ (head ∷ more) ≡ whole → new ++ more ≡ whole

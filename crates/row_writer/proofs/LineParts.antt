@@ -5,7 +5,7 @@ use Rattle.std.specs.Fmt.{decimal}
 use Rattle.std.specs.Prelude.{IfSome}
 use Rattle.std.specs.List.{list_all}
 use Rattle.std.proofs.lemmas.Bool.{and_parts}
-use Rattle.std.proofs.lemmas.List.{drop-take, length-append, length-take, length-take-le, take-append-drop}
+use Rattle.std.proofs.lemmas.List.{drop-take, length-take-le, take-append-drop}
 use Rattle.std.proofs.lemmas.List.Folds.{list_all-append}
 use Rattle.std.proofs.lemmas.Option.{IfSome_then}
 use Rattle.std.proofs.Math.Seq.{drop-append_seam, take-append_seam}
@@ -15,7 +15,7 @@ use Rattle.row_writer.specs.declared.style.Style.TheVariants as style
 use Rattle.row_writer.specs.Kept.{Head, Line, cells_text, kept_text, line_end, line_room, quote_room, styled_cell, text_under}
 use Rattle.row_writer.specs.KeptField.{opening, sign, span_rest}
 use Rattle.row_writer.specs.Open.{Open, open_text, open_with, IsBeside, IsOpenAt, IsRun, before_end, behind_end, open_at}
-use Rattle.row_writer.proofs.Keeping.{front_kept}
+use Rattle.row_writer.proofs.Keeping.{front_kept, rises}
 use Rattle.row_writer.proofs.Opened.{line_opened}
 
 -- ---- room without texts
@@ -100,32 +100,29 @@ back_parts doc (h ∷ heads) (x ∷ row) (suc k) s head more e is =
 
 -- ---- where they are written
 
--- a position at which was written on is no higher than the new end
-pub rises : (at r : ℕ) (old new text : List ℕ) → at ≤ length old → take r new ≡ take at old ++ text → at ≤ r
-rises at r old new text inside is =
-    let e = ap (λ (xs : List ℕ). length xs) is in
-    omega (arith, e, length-take r new, length-append (take at old) text, length-take-le at old inside)
-
 -- what three pieces come to that were written one behind the other, the second up to a place and the third behind it
 pub record Pieces (f n e : ℕ) (b1 b4 digits rest cells : List ℕ) : Type 0 where
+  pub between : f ≤ n
   pub behind : n ≤ e
   pub front : take f b4 ≡ take f b1
   pub number : take n b4 ≡ take f b4 ++ digits
   pub back : take e b4 ≡ take n b4 ++ (rest ++ cells)
 
 -- three pieces more, and what stands before them stays
-pub parts_written : (f n r e : ℕ) (b1 b2 b3 b4 : List ℕ) {digits rest cells : List ℕ} → take n b2 ≡ take f b1 ++ digits → take r b3 ≡ take n b2 ++ rest → take e b4 ≡ take r b3 ++ cells
+pub parts_written : (r : ℕ) (b2 b3 : List ℕ) {f n e : ℕ} {b1 b4 digits rest cells : List ℕ}
+    → take n b2 ≡ take f b1 ++ digits → take r b3 ≡ take n b2 ++ rest → take e b4 ≡ take r b3 ++ cells
     → f ≤ length b1 → n ≤ length b2 → r ≤ length b3 → Pieces f n e b1 b4 digits rest cells
-parts_written f n r e b1 b2 b3 b4 {digits} {rest} {cells} one two three inf inn inr =
-    let fn = rises f n b1 b2 digits inf one in
-    let nr = rises n r b2 b3 rest inn two in
-    let re = rises r e b3 b4 cells inr three in
+parts_written r b2 b3 {f} {n} {e} {b1} {b4} {digits} {rest} {cells} one two three inf inn inr =
+    let fn : f ≤ n = rises b1 b2 digits one inf in
+    let nr : n ≤ r = rises b2 b3 rest two inn in
+    let re : r ≤ e = rises b3 b4 cells three inr in
     let self : f ≤ f = omega arith in
     let own : n ≤ n = omega arith in
     let fr : f ≤ r = omega (arith, fn, nr) in
     let front : take f b4 ≡ take f b1 = front_kept f r e b3 b4 cells fr re inr three ∙ front_kept f n r b2 b3 rest fn nr inn two ∙ front_kept f f n b1 b2 digits self fn inf one in
     let number : take n b4 ≡ take n b2 = front_kept n r e b3 b4 cells nr re inr three ∙ front_kept n n r b2 b3 rest own nr inn two in
     record {
+      between = fn;
       behind = omega (arith, nr, re);
       front = front;
       number = number ∙ one ∙ ap (λ (xs : List ℕ). xs ++ digits) (sym front);
@@ -172,12 +169,12 @@ pub record Opening (at f n z : ℕ) (b0 b5 front digits back : List ℕ) : Type 
   pub before : take (f - at) (drop at b5) ≡ front
   pub behind : take (z - n) (drop n b5) ≡ back
 
-pub line_parted : (at f n e z : ℕ) (b0 b4 b5 front digits back end : List ℕ) → at ≤ length b0 → f ≤ n → n ≤ e → e ≤ length b4
+pub line_parted : (e : ℕ) (b4 back end : List ℕ) {at f n z : ℕ} {b0 b5 front digits : List ℕ}
     → take f b4 ≡ take at b0 ++ front → take n b4 ≡ take f b4 ++ digits → take e b4 ≡ take n b4 ++ back → take z b5 ≡ take e b4 ++ end
-    → Opening at f n z b0 b5 front digits (back ++ end)
-line_parted at f n e z b0 b4 b5 front digits back end inside fn ne ine one two three four =
-    let low = rises at f b0 b4 front inside one in
-    let ez = rises e z b4 b5 end ine four in
+    → at ≤ length b0 → f ≤ n → n ≤ e → e ≤ length b4 → Opening at f n z b0 b5 front digits (back ++ end)
+line_parted e b4 back end {at} {f} {n} {z} {b0} {b5} {front} {digits} one two three four inside fn ne ine =
+    let low : at ≤ f = rises b0 b4 front one inside in
+    let ez : e ≤ z = rises b4 b5 end four ine in
     let fe : f ≤ e = omega (arith, fn, ne) in
     let nz : n ≤ z = omega (arith, ne, ez) in
     let inn : n ≤ length b4 = omega (arith, ne, ine) in

@@ -1,11 +1,11 @@
-use Rattle.std.proofs.Common.{◌≡◌, ◌+◌, ◌<◌, ◌++◌, ℕ, List, [], ◌∷◌, take, drop, length, get_or, refl, sym, ap, ◌∙◌, arith, append-nil, Option, false}
-use Rattle.std.proofs.lemmas.List.{drop_more, drop_all}
+use Rattle.std.proofs.Common.{◌≡◌, ◌<◌, ◌++◌, ℕ, List, [], take, drop, length, get_or, refl, sym, ap, ◌∙◌, arith, append-nil, Option, false}
+use Rattle.std.proofs.lemmas.List.{drop_all}
 use Rattle.std.proofs.lemmas.Option.{slice_get_read}
 use Rattle.span_core.specs.declared.span.Span.{Span}
 use Rattle.cell_text.specs.Cells.{ends_by}
-use Rattle.row_writer.specs.Kept.{Head, cells_text, heads_of}
+use Rattle.row_writer.specs.Kept.{cells_text, heads_of}
 use Rattle.row_writer.proofs.Fields.{all_at}
-use Rattle.row_writer.proofs.Keeping.{cells_more, heads_at, same_heads}
+use Rattle.row_writer.proofs.Keeping.{cells_next, same_heads}
 use Rattle.row_writer.proofs.LineParts.{no_cells, no_quote}
 use Rattle.row_writer.proofs.parted.put_cells.Goals as goal
 
@@ -23,24 +23,15 @@ put_kept-end-requires-clause-room c =
 
 pub loop-k-preserved : goal.loop-k-preserved
 loop-k-preserved c =
-    let i = c.loop-k.invariant in
     let k = c.loop-k.k in
-    let spans = c.args.spans.now in
     let fields = c.loop-k.fields in
-    let heads = heads_of c.args.fields.now in
     let field = c.index-fields-k.result in
-    let span = c.index-spans-k.result in
-    let l : k < length spans = omega arith in
-    let n : k < length fields = omega (arith, c.requires.lengths) in
-    let head = (get_or fields k field).head in
-    let left : drop k heads ≡ head ∷ drop (k + 1) heads =
-    sym (ap (λ (hs : List Head). drop k hs) i.heads) ∙ heads_at fields k field n ∙ ap (λ (hs : List Head). head ∷ drop (k + 1) hs) i.heads in
-    let more : drop k spans ≡ span ∷ drop (k + 1) spans = drop_more spans k span l ∙ ap (λ (s : Option Span). s ∷ drop (k + 1) spans) (sym c.index-spans-k.is) in
+    let same = c.loop-k.invariant.heads in
+    let n : k < length fields = omega arith in
     record {
-      heads = same_heads fields k field c.put_kept-end.new.field n c.put_kept-end.ensures.head ∙ i.heads;
-      written = cells_more c.args.doc.now false (take c.loop-k.end c.loop-k.buffer) (take c.put_kept-end.result c.put_kept-end.new.buffer) head
-          (drop k heads) (drop (k + 1) heads) (drop k spans) (drop (k + 1) spans) span _ left more c.put_kept-end.ensures.text i.written;
-      room = omega (arith, i.room, c.put_kept-end.ensures.end, no_quote head.style span);
+      heads = same_heads fields k field c.put_kept-end.new.field n c.put_kept-end.ensures.head ∙ same;
+      written = cells_next c.args.doc.now false _ fields c.args.spans.now k field same n (omega arith) c.index-spans-k.is c.put_kept-end.ensures.text c.loop-k.invariant.written;
+      room = omega (arith, no_quote (get_or fields k field).head.style c.index-spans-k.result);
     }
 
 pub returns-clause-text : goal.returns-clause-text

@@ -1,4 +1,4 @@
-use Rattle.std.proofs.Common.{◌≡◌, ◌+◌, ◌<◌, length, get_or, ap, ◌∙◌, arith, append_assoc, Option, Some, get_or-set_same}
+use Rattle.std.proofs.Common.{◌≡◌, ◌+◌, ◌*◌, ◌<◌, ◌≤◌, length, get_or, ap, ◌∙◌, arith, append_assoc, Option, Some, get_or-set_same}
 use Rattle.std.proofs.lemmas.Bool.{leb-true}
 use Rattle.std.proofs.lemmas.List.{length-take}
 use Rattle.span_core.specs.declared.span.Span.{Span}
@@ -23,7 +23,8 @@ put_number-number-requires c = omega (arith, length-take {A = Option Span})
 
 pub put_rest-end-requires-clause-inside : goal.put_rest-end-requires-clause-inside
 put_rest-end-requires-clause-inside c =
-    leb-true c.args.beside.span.end (length c.args.doc.now) (all_at (ends_by (length c.args.doc.now)) c.args.spans.now c.args.beside.place (Some c.args.beside.span) c.requires.span c.requires.inside)
+    leb-true c.args.beside.span.end (length c.args.doc.now)
+    (all_at (ends_by (length c.args.doc.now)) c.args.spans.now c.args.beside.place (Some c.args.beside.span) c.requires.span c.requires.inside)
 
 pub put_rest-end-requires-clause-room : goal.put_rest-end-requires-clause-room
 put_rest-end-requires-clause-room c = omega (arith, length-take {A = Option Span}, no_quote)
@@ -45,13 +46,13 @@ returns c =
     let style : c.style.result ≡ (get_or fields place field).head.style =
     c.style.ensures ∙ ap (λ (f : Field). f.head.style) (get_or-set_same fields place c.put_start-front.new.self c.index-fields-place-2.result n)
     ∙ ap (λ (h : Head). h.style) c.put_start-front.ensures.head in
-    let t = parts_written _ _ _ _ _ _ _ _
-    c.put_number-number.ensures.text (rw style at c.put_rest-end.ensures.text) (rw others at c.put_cells-end-2.ensures.text)
+    let end : c.put_cells-end-2.result ≤ c.args.at + 64 * length spans = omega (arith, length-take {A = Option Span}, no_quote) in
+    let t = parts_written _ _ _ c.put_number-number.ensures.text (rw style at c.put_rest-end.ensures.text) (rw others at c.put_cells-end-2.ensures.text)
     (omega (arith, length-take {A = Option Span}, no_quote)) (omega (arith, length-take {A = Option Span}, no_quote)) (omega (arith, length-take {A = Option Span}, no_quote)) in
     record {
       heads = c.put_cells-end-2.ensures.heads ∙ others;
-      end = omega (arith, length-take {A = Option Span}, no_quote);
-      between = omega arith;
+      end = end;
+      between = t.between;
       behind = t.behind;
       front = t.front ∙ c.put_start-front.ensures.text ∙ rw (c.put_cells-end.ensures.text, append_assoc, front_parts doc _ spans place span.start _ _ left c.requires.within);
       number = t.number;

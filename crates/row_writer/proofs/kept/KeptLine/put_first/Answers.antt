@@ -1,11 +1,11 @@
-use Rattle.std.proofs.Common.{◌≡◌, ◌++◌, ℕ, List, length, take, drop, sym, ap, ap₂, ◌∙◌, arith, subst, Some}
+use Rattle.std.proofs.Common.{◌≡◌, ◌≤◌, ◌++◌, ℕ, List, length, take, drop, sym, ap, ap₂, ◌∙◌, arith, subst, Some}
 use Rattle.std.specs.Fmt.{decimal}
 use Rattle.std.proofs.lemmas.Option.{slice_get_within}
 use Rattle.row_writer.specs.declared.style.Style.{Style}
 use Rattle.row_writer.specs.Kept.{Field, Head, Line, heads_of, line_end, line_with}
 use Rattle.row_writer.specs.Open.{IsRun, before_end, behind_end}
-use Rattle.row_writer.proofs.Keeping.{length_heads}
-use Rattle.row_writer.proofs.LineParts.{line_parted, rises, room_bare, run_begun, text_opened, written_back}
+use Rattle.row_writer.proofs.Keeping.{length_heads, rises}
+use Rattle.row_writer.proofs.LineParts.{line_parted, room_bare, run_begun, text_opened, written_back}
 use Rattle.row_writer.proofs.kept.KeptLine.put_first.Goals as goal
 
 pub put_parted-parts-requires-clause-lengths : goal.put_parted-parts-requires-clause-lengths
@@ -22,14 +22,13 @@ pub put_line_end-end-requires : goal.put_line_end-end-requires
 put_line_end-end-requires c = omega (arith, c.put_parted-parts.ensures.end, c.requires.room, room_bare c.args.self.now.heads c.args.spans.now c.requires.lengths)
 
 pub open_line-self-inside-requires-clause-before : goal.open_line-self-inside-requires-clause-before
-open_line-self-inside-requires-clause-before c =
-    rises c.args.at c.put_parted-parts.result.front c.args.buffer.now c.put_parted-parts.new.buffer _ (omega (arith, c.requires.room)) c.put_parted-parts.ensures.front
+open_line-self-inside-requires-clause-before c = rises _ _ _ c.put_parted-parts.ensures.front (omega arith)
 
 pub open_line-self-inside-requires-clause-behind : goal.open_line-self-inside-requires-clause-behind
 open_line-self-inside-requires-clause-behind c =
-    let low = rises c.put_parted-parts.result.end c.put_line_end-end.result c.put_parted-parts.new.buffer c.put_line_end-end.new.buffer _
-    (omega (arith, c.put_parted-parts.ensures.end, c.requires.room, room_bare c.args.self.now.heads c.args.spans.now c.requires.lengths)) c.put_line_end-end.ensures.text in
-    omega (arith, low, c.put_parted-parts.ensures.behind)
+    let low : c.put_parted-parts.result.end ≤ c.put_line_end-end.result =
+    rises c.put_parted-parts.new.buffer _ _ c.put_line_end-end.ensures.text (omega (arith, room_bare c.args.self.now.heads c.args.spans.now c.requires.lengths)) in
+    omega (arith, low)
 
 pub open_line-self-inside-requires-clause-inside : goal.open_line-self-inside-requires-clause-inside
 open_line-self-inside-requires-clause-inside c =
@@ -48,16 +47,13 @@ invariant_of-self c =
     let style = c.self.inside.style in
     let new = c.put_parted-parts.new.fields in
     let heads = heads_of c.as_mut_slice.result.now in
-    let bare = room_bare c.args.self.now.heads spans c.requires.lengths in
-    let t = line_parted c.args.at c.put_parted-parts.result.front c.put_parted-parts.result.number c.put_parted-parts.result.end c.put_line_end-end.result
-    c.args.buffer.now c.put_parted-parts.new.buffer c.put_line_end-end.new.buffer (before_end doc heads spans place span.start) (decimal span.end) (behind_end doc heads spans place) (line_end style)
-    (omega (arith, c.requires.room)) c.put_parted-parts.ensures.between c.put_parted-parts.ensures.behind (omega (arith, c.put_parted-parts.ensures.end, c.requires.room, bare))
-    c.put_parted-parts.ensures.front c.put_parted-parts.ensures.number c.put_parted-parts.ensures.back c.put_line_end-end.ensures.text in
     let same : heads_of c.as_mut_slice.result.now ≡ heads_of fields = ap heads_of c.as_mut_slice.ensures.value in
     let own : heads ≡ c.args.self.now.heads = same ∙ ap (λ (l : Line). l.heads) c.self.view_is in
     let back : take c.self.inside.fields.len (new ++ drop (length new) fields) ≡ new = written_back c.self.inside.fields.len new fields (omega arith) in
     let line : line_with style (heads_of (take c.self.inside.fields.len (new ++ drop (length new) fields))) ≡ c.args.self.now =
     ap (λ (fs : List Field). line_with style (heads_of fs)) back ∙ ap (λ (hs : List Head). line_with style hs) (c.put_parted-parts.ensures.heads ∙ same) ∙ c.self.view_is in
+    let t = line_parted _ _ _ _ c.put_parted-parts.ensures.front c.put_parted-parts.ensures.number c.put_parted-parts.ensures.back c.put_line_end-end.ensures.text
+    (omega arith) c.put_parted-parts.ensures.between c.put_parted-parts.ensures.behind (omega (arith, room_bare c.args.self.now.heads spans c.requires.lengths)) in
     subst (λ (l : Line). IsRun l c.copy_from_slice.new.self.items place c.open_line-self-inside.result) (sym line)
     (run_begun c.args.self.now spans c.copy_from_slice.new.self.items place doc span c.open_line-self-inside.result _ _ c.requires.lengths c.requires.span
     c.copy_from_slice.ensures.items c.open_line-self-inside.ensures
@@ -72,11 +68,8 @@ returns-clause-text c =
     let doc = c.args.doc.now in
     let style = c.self.inside.style in
     let heads = heads_of c.as_mut_slice.result.now in
-    let bare = room_bare c.args.self.now.heads spans c.requires.lengths in
-    let t = line_parted c.args.at c.put_parted-parts.result.front c.put_parted-parts.result.number c.put_parted-parts.result.end c.put_line_end-end.result
-    c.args.buffer.now c.put_parted-parts.new.buffer c.put_line_end-end.new.buffer (before_end doc heads spans place span.start) (decimal span.end) (behind_end doc heads spans place) (line_end style)
-    (omega (arith, c.requires.room)) c.put_parted-parts.ensures.between c.put_parted-parts.ensures.behind (omega (arith, c.put_parted-parts.ensures.end, c.requires.room, bare))
-    c.put_parted-parts.ensures.front c.put_parted-parts.ensures.number c.put_parted-parts.ensures.back c.put_line_end-end.ensures.text in
+    let t = line_parted _ _ _ _ c.put_parted-parts.ensures.front c.put_parted-parts.ensures.number c.put_parted-parts.ensures.back c.put_line_end-end.ensures.text
+    (omega arith) c.put_parted-parts.ensures.between c.put_parted-parts.ensures.behind (omega (arith, room_bare c.args.self.now.heads spans c.requires.lengths)) in
     let own : heads ≡ c.args.self.now.heads = ap heads_of c.as_mut_slice.ensures.value ∙ ap (λ (l : Line). l.heads) c.self.view_is in
     let b = take c.args.at c.args.buffer.now in
     t.whole
