@@ -79,7 +79,7 @@ parts_renewed e b0 b1 b2 {h} {f} {m} {l} {sign} {o} {ds} {de} {b3} front first b
     let same = shorter h f b0 b3 hf t.0 in
     record { same = same; front = t.0 ∙ front ∙ ap (λ (xs : List ℕ). xs ++ o) (sym same); half = t.1.0; all = t.1.1 }
 
--- or what opens them is written too, behind a head
+-- or what opens them is written too, behind the head of other bytes
 pub parts_opened : (h e : ℕ) (bytes b0 b1 b2 : List ℕ) {f m l sign : ℕ} {o ds de b3 : List ℕ}
     → take f b0 ≡ take h bytes ++ o → take e b1 ≡ take f b0 ++ ds → take m b2 ≡ take e b1 ++ sign ∷ [] → take l b3 ≡ take m b2 ++ de
     → h ≤ length bytes → f ≤ length b0 → e ≤ length b1 → m ≤ length b2 → Parts h f m l sign o ds de (take h bytes) b3

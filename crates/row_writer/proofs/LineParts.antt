@@ -100,7 +100,7 @@ back_parts doc (h ∷ heads) (x ∷ row) (suc k) s head more e is =
 
 -- ---- where they are written
 
--- what three pieces come to that were written one behind the other, the second up to a place and the third behind it
+-- three pieces were written one behind the other: the bytes up to f stay, the digits end at n, and the rest and the cells end at e
 pub record Pieces (f n e : ℕ) (b1 b4 digits rest cells : List ℕ) : Type 0 where
   pub between : f ≤ n
   pub behind : n ≤ e
@@ -108,7 +108,7 @@ pub record Pieces (f n e : ℕ) (b1 b4 digits rest cells : List ℕ) : Type 0 wh
   pub number : take n b4 ≡ take f b4 ++ digits
   pub back : take e b4 ≡ take n b4 ++ (rest ++ cells)
 
--- three pieces more, and what stands before them stays
+-- each piece that is written keeps what stands before it
 pub parts_written : (r : ℕ) (b2 b3 : List ℕ) {f n e : ℕ} {b1 b4 digits rest cells : List ℕ}
     → take n b2 ≡ take f b1 ++ digits → take r b3 ≡ take n b2 ++ rest → take e b4 ≡ take r b3 ++ cells
     → f ≤ length b1 → n ≤ length b2 → r ≤ length b3 → Pieces f n e b1 b4 digits rest cells

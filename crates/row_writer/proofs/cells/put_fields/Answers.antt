@@ -1,6 +1,5 @@
-use Rattle.std.proofs.Common.{length, refl, arith, append-nil}
+use Rattle.std.proofs.Common.{◌<◌, length, refl, ◌∙◌, arith, append-nil}
 use Rattle.std.proofs.lemmas.Option.{slice_get_read}
-use Rattle.std.proofs.Common.{◌∙◌, ◌<◌}
 use Rattle.cell_text.specs.Cells.{ends_by}
 use Rattle.row_writer.proofs.Keeping.{cells_next, no_heads, room_next, same_heads}
 use Rattle.row_writer.proofs.Fields.{all_at}
