@@ -62,18 +62,21 @@ so_far_part old mid new waiting line left left' whole s is p =
     rw (← whole_is) part
 
 -- what a line passed on, and then all that waited
-pub passes_whole : (old mid new : Flow) (waiting line left : List ℕ) → Passes waiting line left (change old mid) → Adds (change mid new) left → Adds (change old new) (waiting ++ line)
-passes_whole old mid new waiting line left p adds =
+pub passes_whole : {old mid : Flow} (new : Flow) {waiting line left : List ℕ}
+    → Passes waiting line left (change old mid) → Adds (change mid new) left → Adds (change old new) (waiting ++ line)
+passes_whole {old} {mid} new {left = left} p adds =
     rw (← p.joined) (Appends-trans old.bytes mid.bytes new.bytes p.sent left p.adds adds)
 
 -- or a part of it
-pub passes_part : (old mid new : Flow) (waiting line left : List ℕ) → Passes waiting line left (change old mid) → AddsPart (change mid new) left → AddsPart (change old new) (waiting ++ line)
-passes_part old mid new waiting line left p part =
+pub passes_part : {old mid : Flow} (new : Flow) {waiting line left : List ℕ}
+    → Passes waiting line left (change old mid) → AddsPart (change mid new) left → AddsPart (change old new) (waiting ++ line)
+passes_part {old} {mid} new {left = left} p part =
     rw (← p.joined) (part_after old.bytes mid.bytes new.bytes p.sent left p.adds part)
 
 -- what puts of a text have passed on, where nothing of it is left
-pub rows_passed : (mid new : Flow) (waiting waiting' lines : List ℕ) → SoFar (change mid new) waiting' [] (waiting ++ lines) → Passes waiting lines waiting' (change mid new)
-rows_passed mid new waiting waiting' lines s = record {
+pub rows_passed : {mid new : Flow} (waiting : List ℕ) {waiting' : List ℕ} (lines : List ℕ)
+    → SoFar (change mid new) waiting' [] (waiting ++ lines) → Passes waiting lines waiting' (change mid new)
+rows_passed waiting {waiting'} lines s = record {
   sent = s.sent;
   adds = s.adds;
   joined = ap (λ xs. s.sent ++ xs) (sym (append-nil waiting')) ∙ s.joined;

@@ -46,30 +46,31 @@ module _ (out : Change) (end : Status) (note : List ℕ) (old mid new : ℕ) (te
 
 -- ---- what going further did, told of what the rows were first taken from
 
-module _ (judges : ℕ → List ℕ → Bool) (s t : Source) (same : t ≡ s) (old new : List SpanRow) (row : SpanRow) where
-  pub goes_on : passing_over judges t old ≡ row ∷ passing_over judges t new → passing_over judges s old ≡ row ∷ passing_over judges s new
-  goes_on h = rw (← same) h
+module _ {s t : Source} (same : t ≡ s) where
+  pub goes_on : (judges : ℕ → List ℕ → Bool) (old new : List SpanRow) {row : SpanRow} → passing_over judges t old ≡ row ∷ passing_over judges t new
+      → passing_over judges s old ≡ row ∷ passing_over judges s new
+  goes_on judges old new h = rw (← same) h
 
-  pub goes_out : passing_over judges t old ≡ [] → passing_over judges s old ≡ []
-  goes_out h = rw (← same) h
+  pub goes_out : (judges : ℕ → List ℕ → Bool) (old : List SpanRow) → passing_over judges t old ≡ [] → passing_over judges s old ≡ []
+  goes_out judges old h = rw (← same) h
 
-  pub fits_page : FitsRow (length t.names) (length t.document) row → FitsPage (length s.names) (length s.document) row
-  fits_page h = rw (← same) (fits_of (length t.names) (length t.document) row h)
+  pub fits_page : {row : SpanRow} → FitsRow (length t.names) (length t.document) row → FitsPage (length s.names) (length s.document) row
+  fits_page {row} h = rw (← same) (fits_of (length t.names) (length t.document) row h)
 
-  pub tries : (now next : ℕ) (found : Bool) → next ≤ now + trying_steps (length t.names) (length t.asked) (length old - length new) found →
+  pub tries : (old new : List SpanRow) (now next : ℕ) (found : Bool) → next ≤ now + trying_steps (length t.names) (length t.asked) (length old - length new) found →
       next ≤ now + ((length old - length new) * (next_steps (length s.names) + length s.asked) + (if found then 0 else next_steps (length s.names)))
-  tries now next found h = rw (← same) h
+  tries old new now next found h = rw (← same) h
 
 -- one list ends in a second, and that in a third
-pub ends_on : (xs ys zs : List SpanRow) → EndsIn xs ys → EndsIn ys zs → EndsIn xs zs
-ends_on xs ys zs (f, is) (g, next) = (f ++ g, is ∙ ap (λ (rows : List SpanRow). f ++ rows) next ∙ sym (append_assoc f g zs))
+pub ends_on : {xs ys : List SpanRow} (zs : List SpanRow) → EndsIn xs ys → EndsIn ys zs → EndsIn xs zs
+ends_on zs (f, is) (g, next) = (f ++ g, is ∙ ap (λ (rows : List SpanRow). f ++ rows) next ∙ sym (append_assoc f g zs))
 
 pub ends_long : (xs ys : List SpanRow) → EndsIn xs ys → length ys ≤ length xs
 ends_long xs ys (f, is) = omega (arith, ap length is ∙ length-append f ys)
 
 -- ---- what was tried
 
-module _ (judges : ℕ → List ℕ → Bool) (s : Source) (rest left page : List SpanRow) (ends : EndsIn rest left) (old : ℕ) where
+module _ (judges : ℕ → List ℕ → Bool) (s : Source) (page rest left : List SpanRow) (ends : EndsIn rest left) where
   abbrev checks : List Check
   checks = checks_over judges s
 
@@ -83,9 +84,9 @@ module _ (judges : ℕ → List ℕ → Bool) (s : Source) (rest left page : Lis
   tried_long = let long = ap length ends.1 ∙ length-append ends.0 left in omega (arith, long)
 
   -- and the answers did not end
-  pub tried_some : (new : ℕ) → length (passing_over judges s rest) ≤ length page + 1 + length (passing_over judges s left) →
+  pub tried_some : (old new : ℕ) → length (passing_over judges s rest) ≤ length page + 1 + length (passing_over judges s left) →
       new ≤ old + (length rest - length left) * (next_steps (length s.names) + length s.asked) → PageTakes checks s.names s.document rest page (clock old new)
-  tried_some new few steps =
+  tried_some old new few steps =
       let U = next_steps (length s.names) + length s.asked in
       let same : (length rest - length left) * U ≡ length ends.0 * U = ap (λ (n : ℕ). n * U) tried_long in
       page_takes checks s.names s.document rest page (length s.asked) old new (record {
@@ -99,9 +100,9 @@ module _ (judges : ℕ → List ℕ → Bool) (s : Source) (rest left page : Lis
       })
 
 -- and they ended
-pub tried_all : (judges : ℕ → List ℕ → Bool) (s : Source) (rest page : List SpanRow) (old new : ℕ) → length (passing_over judges s rest) ≤ length page →
+pub tried_all : (judges : ℕ → List ℕ → Bool) (s : Source) (page rest : List SpanRow) (old new : ℕ) → length (passing_over judges s rest) ≤ length page →
     new ≤ old + length rest * (next_steps (length s.names) + length s.asked) + next_steps (length s.names) → PageTakes (checks_over judges s) s.names s.document rest page (clock old new)
-tried_all judges s rest page old new few steps =
+tried_all judges s page rest old new few steps =
     page_takes (checks_over judges s) s.names s.document rest page (length s.asked) old new (record {
       tried = rest;
       left = [];
@@ -114,14 +115,14 @@ tried_all judges s rest page old new few steps =
 
 -- ---- the steps so far, and those of one try more
 
-module _ (judges : ℕ → List ℕ → Bool) (s t : Source) (same : t ≡ s) (all old new : List SpanRow) (ends : EndsIn all old) (then_ : EndsIn old new) (start mid next : ℕ)
+module _ {s t : Source} (same : t ≡ s) (all old new : List SpanRow) (ends : EndsIn all old) (then_ : EndsIn old new) (start : ℕ) {mid next : ℕ}
     (first : mid ≤ start + (length all - length old) * (next_steps (length s.names) + length s.asked)) where
   pub took_found : (found : Bool) → found ≡ true → next ≤ mid + trying_steps (length t.names) (length t.asked) (length old - length new) found →
       next ≤ start + (length all - length new) * (next_steps (length s.names) + length s.asked)
   took_found found is took =
       let here = rw is at took in
       steps_found (length all) (length old) (length new) (next_steps (length s.names) + length s.asked) start mid next (ends_long old new then_) (ends_long all old ends) first
-      (tries judges s t same old new [] mid next true here)
+      (tries same old new mid next true here)
 
   pub took_none : (found : Bool) → found ≡ false → new ≡ [] → next ≤ mid + trying_steps (length t.names) (length t.asked) (length old - length new) found →
       next ≤ start + length all * (next_steps (length s.names) + length s.asked) + next_steps (length s.names)
@@ -129,48 +130,61 @@ module _ (judges : ℕ → List ℕ → Bool) (s t : Source) (same : t ≡ s) (a
       let here = rw is at took in
       let gone = rw none at here in
       steps_ended (length all) (length old) (next_steps (length s.names)) (next_steps (length s.names) + length s.asked) start mid next (ends_long all old ends) first
-      (tries judges s t same old [] [] mid next false gone)
+      (tries same old [] mid next false gone)
 
   -- the try behind the last row of a page
-  pub last_try : (page : List SpanRow) (row : SpanRow) (found : Bool) → OnTrue found (passing_over judges t old ≡ row ∷ passing_over judges t new) →
+  pub last_try : (judges : ℕ → List ℕ → Bool) (page : List SpanRow) (row : SpanRow) (found : Bool) → OnTrue found (passing_over judges t old ≡ row ∷ passing_over judges t new) →
       OnFalse found ((passing_over judges t old ≡ []) × (new ≡ [])) →
       length (passing_over judges s all) ≤ length page + length (passing_over judges s old) →
       next ≤ mid + trying_steps (length t.names) (length t.asked) (length old - length new) found → PageTakes (checks_over judges s) s.names s.document all page (clock start next)
-  last_try page row true some none few took =
-      let one = ap length (goes_on judges s t same old new row some) in
-      tried_some judges s all new page (ends_on all old new ends then_) start next (omega (arith, one, few)) (took_found true refl took)
-  last_try page row false some none few took =
-      let empty = ap length (goes_out judges s t same old new row none.0) in
-      tried_all judges s all page start next (omega (arith, empty, few)) (took_none false refl none.1 took)
+  last_try judges page row true some none few took =
+      let one = ap length (goes_on same judges old new some) in
+      tried_some judges s page all new (ends_on new ends then_) start next (omega (arith, one, few)) (took_found true refl took)
+  last_try judges page row false some none few took =
+      let empty = ap length (goes_out same judges old none.0) in
+      tried_all judges s page all start next (omega (arith, empty, few)) (took_none false refl none.1 took)
+
+-- a row that was found is the next one of the answers and of the page, and behind it is what the answers from the first on end in
+pub record NextRow (judges : ℕ → List ℕ → Bool) (s : Source) (all old new : List SpanRow) (limit limit' : Option ℕ) (row : SpanRow) : Type 0 where
+  pub next : passing_over judges s old ≡ row ∷ passing_over judges s new
+  pub front : first_rows limit (passing_over judges s old) ≡ row ∷ first_rows limit' (passing_over judges s new)
+  pub tried : EndsIn all new
+
+pub next_row : (judges : ℕ → List ℕ → Bool) {s t : Source} {all old : List SpanRow} (new : List SpanRow) {limit limit' : Option ℕ} {row : SpanRow} → t ≡ s → EndsIn all old → EndsIn old new
+    → passing_over judges t old ≡ row ∷ passing_over judges t new → ((x : SpanRow) (rows : List SpanRow) → first_rows limit (x ∷ rows) ≡ x ∷ first_rows limit' rows)
+    → NextRow judges s all old new limit limit' row
+next_row judges {old = old} new {limit} {row = row} same ends then_ found one =
+    let next = goes_on same judges old new found in
+    record { next = next; front = ap (first_rows limit) next ∙ one row _; tried = ends_on new ends then_ }
 
 pub on_true : (b : Bool) (P : Type 0) → P → OnTrue b P
 on_true true P p = p
 on_true false P p = tt
 
 -- what was gone on to leaves fewer
-pub further : (judges : ℕ → List ℕ → Bool) (s : Source) (old new : List SpanRow) (row : SpanRow) → EndsIn old new →
+pub further : (judges : ℕ → List ℕ → Bool) (s : Source) {old : List SpanRow} (new : List SpanRow) {row : SpanRow} → EndsIn old new →
     passing_over judges s old ≡ row ∷ passing_over judges s new → length new < length old
-further judges s old new row ([], is) next =
+further judges s new ([], is) next =
     let same = ap (λ (rows : List SpanRow). length (passing_over judges s rows)) is in
     let one = ap length next in
     absurd (omega (arith, same, one))
-further judges s old new row (x ∷ front, is) next = let long = ap length is ∙ length-append (x ∷ front) new in omega (arith, long)
+further judges s new (x ∷ front, is) next = let long = ap length is ∙ length-append (x ∷ front) new in omega (arith, long)
 
 -- ---- the end
 
 -- no row was left
-pub ends_none : (limit : Option ℕ) (left page coming : List SpanRow) → left ≡ [] → length left + length page ≡ length coming + length (first_rows limit left) →
+pub ends_none : (limit : Option ℕ) {left : List SpanRow} (page coming : List SpanRow) → left ≡ [] → length left + length page ≡ length coming + length (first_rows limit left) →
     EndsPage page coming None false
-ends_none limit left page coming none same =
+ends_none limit page coming none same =
     let gone = ap length (ap (first_rows limit) none ∙ first_of_none limit) in
     let empty = ap length none in
     record { more = (λ t. absurd (cc), λ h. absurd (omega (arith, gone, empty, same, h))); last = tt }
 
 -- the limit was reached, and one row further was tried
-pub ends_after : (judges : ℕ → List ℕ → Bool) (s t : Source) (same : t ≡ s) (old new page coming : List SpanRow) (row : SpanRow) (last last_row : Option SpanRow) (more : Bool) (P : Type 0) →
+pub ends_after : (judges : ℕ → List ℕ → Bool) {s t : Source} (old new page coming : List SpanRow) (row : SpanRow) {last last_row : Option SpanRow} (more : Bool) (P : Type 0) → t ≡ s →
     OnTrue more (passing_over judges t old ≡ row ∷ passing_over judges t new) → OnFalse more ((passing_over judges t old ≡ []) × P) →
     length (passing_over judges s old) + length page ≡ length coming → last ≡ last_row → last_row ≡ page_end page None → EndsPage page coming last more
-ends_after judges s t same old new page coming row last last_row more P some none count is ends =
+ends_after judges {t = t} old new page coming row {last} more P same some none count is ends =
     let m = some_more more (passing_over judges t old) (passing_over judges t new) row P some none in
     let n = rw same at m in
     record {

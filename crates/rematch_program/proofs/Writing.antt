@@ -7,9 +7,10 @@ use Rattle.rm_outside.specs.Flow.{Flow}
 use Rattle.row_writer.specs.Kept.{Line, kept_text}
 use Rattle.spanner_model.specs.Captures.{VarName}
 use Rattle.spanner_model.specs.Answers.{SpanRow}
-use Rattle.spanner_engine.specs.Left.{Source}
+use Rattle.spanner_engine.specs.Left.{RowsLeft, Source}
 use Rattle.rematch_program.specs.Kept.{kept_of}
 use Rattle.rematch_program.specs.Pages.{FitsIf, FitsPage, cursor_given, last_note, page_text}
+use Rattle.rematch_program.specs.Taking.{page_rows, whole_text}
 use Rattle.rematch_program.specs.Work.{Passes, SoFar}
 use Rattle.rematch_program.specs.Written.{EndsPage, Fits, IsOver, Page, line_of, lines_of, page_begun, with_waiting}
 use Rattle.rematch_program.proofs.Gathers.{so_far_more, so_far_part}
@@ -28,26 +29,28 @@ module _ (p : Page) (kept : Line) (is : kept ≡ kept_of p.form p.names) (row : 
 -- ---- it begins
 
 -- it is over what its columns and its document were taken from
-pub begun_over : (p : Page) (a : RequestView) (s : Source) (names : List VarName) (document : List ℕ) → p ≡ page_begun a names document → names ≡ s.names → document ≡ s.document → IsOver p s
-begun_over p a s names document is columns bytes = record {
+pub begun_over : (a : RequestView) (s : Source) {p : Page} {names : List VarName} {document : List ℕ}
+    → p ≡ page_begun a names document → names ≡ s.names → document ≡ s.document → IsOver p s
+begun_over a s is columns bytes = record {
   names = ap (λ (q : Page). q.names) is ∙ columns;
   document = ap (λ (q : Page). q.document) is ∙ bytes;
 }
 
 -- what waits and the lines of the rows are its text
-pub begun_text : (p : Page) (a : RequestView) (s : Source) (names : List VarName) (document : List ℕ) (rows : List SpanRow) →
-    p ≡ page_begun a names document → names ≡ s.names → document ≡ s.document →
-    p.waiting ++ lines_of p rows ≡ page_text a.form a.texts s.names s.document rows
-begun_text p a s names document rows is columns bytes =
+pub begun_text : (judges : ℕ → List ℕ → Bool) (r : RowsLeft) (a : RequestView) {p : Page} {names : List VarName} {document : List ℕ}
+    → p ≡ page_begun a names document → names ≡ r.source.names → document ≡ r.source.document
+    → p.waiting ++ lines_of p (page_rows judges r a.limit) ≡ whole_text judges r a
+begun_text judges r a {document = document} is columns bytes =
+    let rows = page_rows judges r a.limit in
     ap (λ (q : Page). q.waiting ++ lines_of q rows) is
     ∙ ap (λ (ns : List VarName). page_text a.form a.texts ns document rows) columns
-    ∙ ap (λ (d : List ℕ). page_text a.form a.texts s.names d rows) bytes
+    ∙ ap (λ (d : List ℕ). page_text a.form a.texts r.source.names d rows) bytes
 
 -- ---- its note
 
 module _ (s : Source) (vars : List VarName) (n : ℕ) (columns : vars ≡ s.names) (bytes : n ≡ length s.document) (last : Option SpanRow) where
-  pub note_fits : (p : Page) → IsOver p s → FitsIf (length p.names) (length p.document) last → FitsIf (length vars) n last
-  note_fits p over fits =
+  pub note_fits : {p : Page} → IsOver p s → FitsIf (length p.names) (length p.document) last → FitsIf (length vars) n last
+  note_fits {p} over fits =
       let wide : FitsIf (length vars) (length p.document) last = rw (← over.names ∙ sym columns) fits in
       rw (← ap length over.document ∙ sym bytes) wide
 
@@ -61,9 +64,9 @@ module _ (s : Source) (vars : List VarName) (n : ℕ) (columns : vars ≡ s.name
 -- ---- one row more
 
 -- first is the page as it was at first, and before as it is before the line is put
-module _ (first before : Page) (same : before ≡ with_waiting before.waiting first) (row spans : SpanRow) (shown : spans ≡ row) where
-  pub fits_now : (s : Source) → IsOver first s → FitsPage (length s.names) (length s.document) row → Fits before spans
-  fits_now s over fits =
+module _ (first : Page) {before : Page} (same : before ≡ with_waiting before.waiting first) {row spans : SpanRow} (shown : spans ≡ row) where
+  pub fits_now : {s : Source} → IsOver first s → FitsPage (length s.names) (length s.document) row → Fits before spans
+  fits_now {s} over fits =
       let columns : FitsPage (length first.names) (length s.document) row = rw over.names fits in
       let here : Fits first row = rw over.document columns in
       rw same (subst (Fits first) (sym shown) here)
@@ -71,9 +74,10 @@ module _ (first before : Page) (same : before ≡ with_waiting before.waiting fi
   line_now : line_of before spans ≡ line_of first row
   line_now = ap (λ (p : Page). line_of p spans) same ∙ ap (line_of first) shown
 
-  module _ (old mid new : Flow) (rows rest : List SpanRow) (whole : List ℕ) (front : rows ≡ row ∷ rest) (so_far : SoFar (change old mid) before.waiting (lines_of first rows) whole) where
-    pub line_passed : (waiting : List ℕ) → Passes before.waiting (line_of before spans) waiting (change mid new) → SoFar (change old new) waiting (lines_of first rest) whole
-    line_passed waiting passes =
+  module _ {old mid : Flow} (new : Flow) {rows rest : List SpanRow} {whole : List ℕ} (front : rows ≡ row ∷ rest)
+    (so_far : SoFar (change old mid) before.waiting (lines_of first rows) whole) where
+    pub line_passed : {waiting : List ℕ} → Passes before.waiting (line_of before spans) waiting (change mid new) → SoFar (change old new) waiting (lines_of first rest) whole
+    line_passed {waiting} passes =
         so_far_more old mid new before.waiting waiting (line_of first row) (lines_of first rows) (lines_of first rest) whole so_far (lines_next (line_of first) rows rest row front)
         (rw (← line_now) passes)
 
@@ -83,5 +87,5 @@ module _ (first before : Page) (same : before ≡ with_waiting before.waiting fi
         (rw (← line_now) part)
 
 -- a page of which other bytes wait, twice
-pub still_same : (first before after : Page) → before ≡ with_waiting before.waiting first → after ≡ with_waiting after.waiting before → after ≡ with_waiting after.waiting first
-still_same first before after same then_ = then_ ∙ ap (with_waiting after.waiting) same
+pub still_same : (first : Page) {before after : Page} → before ≡ with_waiting before.waiting first → after ≡ with_waiting after.waiting before → after ≡ with_waiting after.waiting first
+still_same first {after = after} same then_ = then_ ∙ ap (with_waiting after.waiting) same

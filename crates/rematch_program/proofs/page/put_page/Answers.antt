@@ -10,54 +10,40 @@ use Rattle.rematch_program.proofs.page.put_page.Goals as goal
 
 pub put_rows-requires : goal.put_rows-requires
 put_rows-requires g c =
-    record { over = begun_over c.in_ok-page.page (request_view c.args.request.now) (left_in c.args.rows.now).source _ _ c.in_ok-page.ensures c.vars.ensures c.document.ensures.document }
+    record { over = begun_over (request_view c.args.request.now) _ c.in_ok-page.ensures c.vars.ensures c.document.ensures.document }
 
 pub page_note-requires-clause-fit : goal.page_note-requires-clause-fit
 page_note-requires-clause-fit g c =
-    let s = (left_in c.args.rows.now).source in
-    let over = begun_over c.in_ok-page.page (request_view c.args.request.now) s _ _ c.in_ok-page.ensures c.vars.ensures c.document.ensures.document in
-    note_fits s c.vars-2.result.now (length c.document-2.result.now) (c.vars-2.ensures ∙ ap (λ (u : Source). u.names) c.put_rows.ensures.source)
-    (ap length (c.document-2.ensures.document ∙ ap (λ (u : Source). u.document) c.put_rows.ensures.source)) c.in-Ok.end.last c.in_ok-page.page over c.in-Ok.ensures.fits
+    note_fits (left_in c.args.rows.now).source c.vars-2.result.now (length c.document-2.result.now) (c.vars-2.ensures ∙ ap (λ (u : Source). u.names) c.put_rows.ensures.source)
+    (ap length (c.document-2.ensures.document ∙ ap (λ (u : Source). u.document) c.put_rows.ensures.source)) c.in-Ok.end.last
+    (begun_over (request_view c.args.request.now) _ c.in_ok-page.ensures c.vars.ensures c.document.ensures.document) c.in-Ok.ensures.fits
 
 pub returns-in-Ok-flush-clause-note : goal.returns-in-Ok-flush-clause-note
 returns-in-Ok-flush-clause-note g c =
-    let s = (left_in c.args.rows.now).source in
     let a = request_view c.args.request.now in
     let judges = g.J.Judge.judges in
     c.in_ok-note.ensures
-    ∙ note_told s c.vars-2.result.now (length c.document-2.result.now) (c.vars-2.ensures ∙ ap (λ (u : Source). u.names) c.put_rows.ensures.source)
+    ∙ note_told (left_in c.args.rows.now).source c.vars-2.result.now (length c.document-2.result.now) (c.vars-2.ensures ∙ ap (λ (u : Source). u.names) c.put_rows.ensures.source)
     (ap length (c.document-2.ensures.document ∙ ap (λ (u : Source). u.document) c.put_rows.ensures.source)) c.in-Ok.end.last
     a.after (page_rows judges (left_in c.args.rows.now) a.limit) (coming judges (left_in c.args.rows.now)) c.in-Ok.end.more c.in-Ok.ensures.end
 
 pub returns-in-Err-clause-part : goal.returns-in-Err-clause-part
 returns-in-Err-clause-part g c =
-    let a = request_view c.args.request.now in
-    let text = begun_text c.in_ok-page.page a (left_in c.args.rows.now).source _ _ (page_rows g.J.Judge.judges (left_in c.args.rows.now) a.limit)
-    c.in_ok-page.ensures c.vars.ensures c.document.ensures.document in
-    rw (← text) c.in-Err.ensures.part
+    rw (← begun_text g.J.Judge.judges (left_in c.args.rows.now) (request_view c.args.request.now) c.in_ok-page.ensures c.vars.ensures c.document.ensures.document) c.in-Err.ensures.part
 
 pub returns-in_err-note-clause-part : goal.returns-in_err-note-clause-part
 returns-in_err-note-clause-part g c =
-    let a = request_view c.args.request.now in
-    let text = begun_text c.in_ok-page.page a (left_in c.args.rows.now).source _ _ (page_rows g.J.Judge.judges (left_in c.args.rows.now) a.limit)
-    c.in_ok-page.ensures c.vars.ensures c.document.ensures.document in
     on_err c.from_residual-in_err-note.result _
-    (rw (← text)
-    (passes_part (g.O.Sink.told c.args.out.now) (g.O.Sink.told c.put_rows.new.out) (g.O.Sink.told c.put_rows.new.out) _ _ _ c.in-Ok.ensures.ok
+    (rw (← begun_text g.J.Judge.judges (left_in c.args.rows.now) (request_view c.args.request.now) c.in_ok-page.ensures c.vars.ensures c.document.ensures.document)
+    (passes_part (g.O.Sink.told c.put_rows.new.out) c.in-Ok.ensures.ok
     (part_nothing (g.O.Sink.told c.put_rows.new.out).bytes _)))
 
 pub returns-clause-part : goal.returns-clause-part
 returns-clause-part g c =
-    let a = request_view c.args.request.now in
-    let text = begun_text c.in_ok-page.page a (left_in c.args.rows.now).source _ _ (page_rows g.J.Judge.judges (left_in c.args.rows.now) a.limit)
-    c.in_ok-page.ensures c.vars.ensures c.document.ensures.document in
-    rw (← text)
-    (passes_part (g.O.Sink.told c.args.out.now) (g.O.Sink.told c.put_rows.new.out) (g.O.Sink.told c.flush.new.out) _ _ _ c.in-Ok.ensures.ok c.in-Err-flush.ensures.part)
+    rw (← begun_text g.J.Judge.judges (left_in c.args.rows.now) (request_view c.args.request.now) c.in_ok-page.ensures c.vars.ensures c.document.ensures.document)
+    (passes_part (g.O.Sink.told c.flush.new.out) c.in-Ok.ensures.ok c.in-Err-flush.ensures.part)
 
 pub returns-in-Ok-flush-clause-whole : goal.returns-in-Ok-flush-clause-whole
 returns-in-Ok-flush-clause-whole g c =
-    let a = request_view c.args.request.now in
-    let text = begun_text c.in_ok-page.page a (left_in c.args.rows.now).source _ _ (page_rows g.J.Judge.judges (left_in c.args.rows.now) a.limit)
-    c.in_ok-page.ensures c.vars.ensures c.document.ensures.document in
-    rw (← text)
-    (passes_whole (g.O.Sink.told c.args.out.now) (g.O.Sink.told c.put_rows.new.out) (g.O.Sink.told c.flush.new.out) _ _ _ c.in-Ok.ensures.ok c.in-Ok-flush.ensures.ok)
+    rw (← begun_text g.J.Judge.judges (left_in c.args.rows.now) (request_view c.args.request.now) c.in_ok-page.ensures c.vars.ensures c.document.ensures.document)
+    (passes_whole (g.O.Sink.told c.flush.new.out) c.in-Ok.ensures.ok c.in-Ok-flush.ensures.ok)

@@ -7,7 +7,7 @@ use Rattle.rematch_program.specs.Pages.{FitsIf, first_rows, row_if}
 use Rattle.rematch_program.specs.Taking.{coming, page_rows}
 use Rattle.rematch_program.specs.Written.{lines_of}
 use Rattle.rematch_program.proofs.Gathers.{rows_passed}
-use Rattle.rematch_program.proofs.PageSteps.{ends_after, ends_none, ends_on, first_of_none, fits_page, further, goes_on, goes_out, last_try, took_found, took_none, tried_all, tried_some}
+use Rattle.rematch_program.proofs.PageSteps.{ends_after, ends_none, first_of_none, fits_page, further, goes_out, last_try, next_row, took_found, took_none, tried_all, tried_some}
 use Rattle.rematch_program.proofs.Writing.{fits_now, line_cut, line_passed, still_same}
 use Rattle.rematch_program.proofs.page.put_rows.Goals as goal
 
@@ -36,104 +36,65 @@ loop-remaining-init g c =
 
 pub returns-then-not-advance-clause-ok : goal.returns-then-not-advance-clause-ok
 returns-then-not-advance-clause-ok g c =
-    let judges = g.J.Judge.judges in
-    let s = (left_in c.args.rows.now).source in
-    let none = goes_out judges s (left_in c.loop-remaining.rows).source c.loop-remaining.invariant.source (left_in c.loop-remaining.rows).rest [] [] c.if-not-advance.ensures.none.0 in
-    let gone = ap (first_rows c.loop-remaining.remaining) none ∙ first_of_none c.loop-remaining.remaining in
-    let page = c.args.page.now in
-    rows_passed (g.O.Sink.told c.args.out.now) (g.O.Sink.told c.loop-remaining.out) page.waiting c.loop-remaining.page.waiting (lines_of page (page_rows judges (left_in c.args.rows.now) c.args.limit))
-    (rw gone at c.loop-remaining.invariant.so_far)
+    let inv = c.loop-remaining.invariant in
+    let none = goes_out inv.source g.J.Judge.judges _ c.if-not-advance.ensures.none.0 in
+    rows_passed _ _ (rw (ap (first_rows c.loop-remaining.remaining) none ∙ first_of_none c.loop-remaining.remaining) at inv.so_far)
 
 pub returns-then-not-advance-clause-end : goal.returns-then-not-advance-clause-end
 returns-then-not-advance-clause-end g c =
-    let judges = g.J.Judge.judges in
-    let s = (left_in c.args.rows.now).source in
-    let none = goes_out judges s (left_in c.loop-remaining.rows).source c.loop-remaining.invariant.source (left_in c.loop-remaining.rows).rest [] [] c.if-not-advance.ensures.none.0 in
-    ends_none c.loop-remaining.remaining (passing_over judges s (left_in c.loop-remaining.rows).rest) (page_rows judges (left_in c.args.rows.now) c.args.limit)
-    (coming judges (left_in c.args.rows.now)) none c.loop-remaining.invariant.more
+    ends_none c.loop-remaining.remaining _ _ (goes_out c.loop-remaining.invariant.source g.J.Judge.judges _ c.if-not-advance.ensures.none.0) c.loop-remaining.invariant.more
 
 pub returns-then-not-advance-clause-steps : goal.returns-then-not-advance-clause-steps
 returns-then-not-advance-clause-steps g c =
     let judges = g.J.Judge.judges in
-    let s = (left_in c.args.rows.now).source in
-    let none = goes_out judges s (left_in c.loop-remaining.rows).source c.loop-remaining.invariant.source (left_in c.loop-remaining.rows).rest [] [] c.if-not-advance.ensures.none.0 in
-    let gone = ap length (ap (first_rows c.loop-remaining.remaining) none ∙ first_of_none c.loop-remaining.remaining) in
-    let empty = ap length none in
-    let same = c.loop-remaining.invariant.more in
-    tried_all judges s (left_in c.args.rows.now).rest (page_rows judges (left_in c.args.rows.now) c.args.limit) c.args.steps.now c.advance.new.steps (omega (arith, gone, empty, same))
-    (took_none judges s (left_in c.loop-remaining.rows).source c.loop-remaining.invariant.source (left_in c.args.rows.now).rest (left_in c.loop-remaining.rows).rest
-    (left_in c.advance.new.self).rest c.loop-remaining.invariant.tried c.advance.ensures.left
-    c.args.steps.now c.loop-remaining.steps c.advance.new.steps c.loop-remaining.invariant.steps c.advance.result (search rules) c.if-not-advance.ensures.none.1 c.advance.ensures.steps)
+    let inv = c.loop-remaining.invariant in
+    let empty = goes_out inv.source judges (left_in c.loop-remaining.rows).rest c.if-not-advance.ensures.none.0 in
+    let gone = ap length (ap (first_rows c.loop-remaining.remaining) empty ∙ first_of_none c.loop-remaining.remaining) in
+    tried_all judges (left_in c.args.rows.now).source (page_rows judges (left_in c.args.rows.now) c.args.limit) (left_in c.args.rows.now).rest _ _
+    (omega (arith, gone, ap length empty, inv.more))
+    (took_none inv.source _ _ _ inv.tried c.advance.ensures.left _ inv.steps c.advance.result (search rules) c.if-not-advance.ensures.none.1 c.advance.ensures.steps)
 
 -- ---- one row more
 
 pub put-requires : goal.put-requires
 put-requires g c =
-    let s = (left_in c.args.rows.now).source in
-    let row = (left_in c.advance.new.self).row in
-    let fits = fits_page g.J.Judge.judges s (left_in c.loop-remaining.rows).source c.loop-remaining.invariant.source [] [] row c.if-not-advance.ensures.fits in
-    record { fits = fits_now c.args.page.now c.loop-remaining.page c.loop-remaining.invariant.same row c.spans.result.now c.spans.ensures s c.requires.over fits }
+    record { fits = fits_now c.args.page.now c.loop-remaining.invariant.same c.spans.ensures c.requires.over (fits_page c.loop-remaining.invariant.source c.if-not-advance.ensures.fits) }
 
 pub returns-in-Err-clause-part : goal.returns-in-Err-clause-part
 returns-in-Err-clause-part g c =
-    let judges = g.J.Judge.judges in
-    let s = (left_in c.args.rows.now).source in
-    let row = (left_in c.advance.new.self).row in
-    let page = c.args.page.now in
-    let next = goes_on judges s (left_in c.loop-remaining.rows).source c.loop-remaining.invariant.source (left_in c.loop-remaining.rows).rest
-    (left_in c.advance.new.self).rest row c.if-not-advance.ensures.next in
-    let front = ap (first_rows c.loop-remaining.remaining) next ∙ c.loop-remaining-test.ensures.one row _ in
-    line_cut page c.loop-remaining.page c.loop-remaining.invariant.same row c.spans.result.now c.spans.ensures
-    (g.O.Sink.told c.args.out.now) (g.O.Sink.told c.loop-remaining.out) (g.O.Sink.told c.put.new.out) _ _ _ front c.loop-remaining.invariant.so_far c.in-Err.ensures.part
+    let inv = c.loop-remaining.invariant in
+    let row = next_row g.J.Judge.judges _ inv.source inv.tried c.advance.ensures.left c.if-not-advance.ensures.next c.loop-remaining-test.ensures.one in
+    line_cut c.args.page.now inv.same c.spans.ensures (g.O.Sink.told c.put.new.out) row.front inv.so_far c.in-Err.ensures.part
 
 pub returns-in-Err-clause-steps : goal.returns-in-Err-clause-steps
 returns-in-Err-clause-steps g c =
     let judges = g.J.Judge.judges in
-    let s = (left_in c.args.rows.now).source in
-    let row = (left_in c.advance.new.self).row in
-    let next = goes_on judges s (left_in c.loop-remaining.rows).source c.loop-remaining.invariant.source (left_in c.loop-remaining.rows).rest
-    (left_in c.advance.new.self).rest row c.if-not-advance.ensures.next in
-    let front = ap (first_rows c.loop-remaining.remaining) next ∙ c.loop-remaining-test.ensures.one row (passing_over judges s (left_in c.advance.new.self).rest) in
-    let one = ap length next in
-    let ahead = ap length front in
-    let same = c.loop-remaining.invariant.more in
-    tried_some judges s (left_in c.args.rows.now).rest (left_in c.advance.new.self).rest (page_rows judges (left_in c.args.rows.now) c.args.limit)
-    (ends_on (left_in c.args.rows.now).rest (left_in c.loop-remaining.rows).rest (left_in c.advance.new.self).rest c.loop-remaining.invariant.tried c.advance.ensures.left)
-    c.args.steps.now c.advance.new.steps (omega (arith, one, ahead, same))
-    (took_found judges s (left_in c.loop-remaining.rows).source c.loop-remaining.invariant.source (left_in c.args.rows.now).rest (left_in c.loop-remaining.rows).rest
-    (left_in c.advance.new.self).rest c.loop-remaining.invariant.tried c.advance.ensures.left
-    c.args.steps.now c.loop-remaining.steps c.advance.new.steps c.loop-remaining.invariant.steps c.advance.result (search rules) c.advance.ensures.steps)
+    let inv = c.loop-remaining.invariant in
+    let left = c.advance.ensures.left in
+    let row = next_row judges _ inv.source inv.tried left c.if-not-advance.ensures.next c.loop-remaining-test.ensures.one in
+    tried_some judges (left_in c.args.rows.now).source (page_rows judges (left_in c.args.rows.now) c.args.limit) _ _ row.tried _ _
+    (omega (arith, ap length row.next, ap length row.front, inv.more))
+    (took_found inv.source _ _ _ inv.tried left _ inv.steps c.advance.result (search rules) c.advance.ensures.steps)
 
 pub loop-remaining-smaller : goal.loop-remaining-smaller
-loop-remaining-smaller g c =
-    further g.J.Judge.judges (left_in c.loop-remaining.rows).source (left_in c.loop-remaining.rows).rest (left_in c.advance.new.self).rest
-    (left_in c.advance.new.self).row c.advance.ensures.left c.if-not-advance.ensures.next
+loop-remaining-smaller g c = further g.J.Judge.judges (left_in c.loop-remaining.rows).source _ c.advance.ensures.left c.if-not-advance.ensures.next
 
 pub loop-remaining-preserved : goal.loop-remaining-preserved
 loop-remaining-preserved g c =
-    let judges = g.J.Judge.judges in
-    let s = (left_in c.args.rows.now).source in
-    let row = (left_in c.advance.new.self).row in
     let page = c.args.page.now in
-    let next = goes_on judges s (left_in c.loop-remaining.rows).source c.loop-remaining.invariant.source (left_in c.loop-remaining.rows).rest
-    (left_in c.advance.new.self).rest row c.if-not-advance.ensures.next in
-    let front = ap (first_rows c.loop-remaining.remaining) next ∙ c.loop-remaining-test.ensures.one row (passing_over judges s (left_in c.advance.new.self).rest) in
-    let one = ap length next in
-    let ahead = ap length front in
-    let fits = fits_page judges s (left_in c.loop-remaining.rows).source c.loop-remaining.invariant.source [] [] row c.if-not-advance.ensures.fits in
+    let inv = c.loop-remaining.invariant in
+    let row = next_row g.J.Judge.judges _ inv.source inv.tried c.advance.ensures.left c.if-not-advance.ensures.next c.loop-remaining-test.ensures.one in
+    let next = (left_in c.advance.new.self).row in
     record {
-      source = c.advance.ensures.source ∙ c.loop-remaining.invariant.source;
-      same = still_same page c.loop-remaining.page c.put.new.self c.loop-remaining.invariant.same c.put.ensures.same;
-      so_far = line_passed page c.loop-remaining.page c.loop-remaining.invariant.same row c.spans.result.now c.spans.ensures
-          (g.O.Sink.told c.args.out.now) (g.O.Sink.told c.loop-remaining.out) (g.O.Sink.told c.put.new.out) _ _ _ front c.loop-remaining.invariant.so_far _ c.in_default.ensures.ok;
-      later = omega (arith, c.loop-remaining.invariant.later, c.put.ensures.later);
-      last = fits_now page page refl row row refl s c.requires.over fits;
-      end = sym (ap (λ (rows : List SpanRow). page_end rows (row_if c.loop-remaining.some (left_in c.loop-remaining.rows).row)) front) ∙ c.loop-remaining.invariant.end;
-      more = omega (arith, c.loop-remaining.invariant.more, one, ahead);
-      tried = ends_on (left_in c.args.rows.now).rest (left_in c.loop-remaining.rows).rest (left_in c.advance.new.self).rest c.loop-remaining.invariant.tried c.advance.ensures.left;
-      steps = took_found judges s (left_in c.loop-remaining.rows).source c.loop-remaining.invariant.source (left_in c.args.rows.now).rest (left_in c.loop-remaining.rows).rest
-          (left_in c.advance.new.self).rest c.loop-remaining.invariant.tried c.advance.ensures.left
-          c.args.steps.now c.loop-remaining.steps c.advance.new.steps c.loop-remaining.invariant.steps c.advance.result (search rules) c.advance.ensures.steps;
+      source = c.advance.ensures.source ∙ inv.source;
+      same = still_same page inv.same c.put.ensures.same;
+      so_far = line_passed page inv.same c.spans.ensures _ row.front inv.so_far c.in_default.ensures.ok;
+      later = omega (arith, inv.later, c.put.ensures.later);
+      last = fits_now page {before = page} refl {row = next} {spans = next} refl c.requires.over (fits_page inv.source c.if-not-advance.ensures.fits);
+      end = sym (ap (λ (rows : List SpanRow). page_end rows (row_if c.loop-remaining.some (left_in c.loop-remaining.rows).row)) row.front) ∙ inv.end;
+      more = omega (arith, inv.more, ap length row.next, ap length row.front);
+      tried = row.tried;
+      steps = took_found inv.source _ _ _ inv.tried c.advance.ensures.left _ inv.steps c.advance.result (search rules) c.advance.ensures.steps;
     }
 
 -- ---- behind the last row
@@ -142,13 +103,7 @@ pub returns-clause-source : goal.returns-clause-source
 returns-clause-source g c = c.advance-more.ensures.source ∙ c.loop-remaining.invariant.source
 
 pub returns-clause-ok : goal.returns-clause-ok
-returns-clause-ok g c =
-    let judges = g.J.Judge.judges in
-    let s = (left_in c.args.rows.now).source in
-    let page = c.args.page.now in
-    let none = c.loop-remaining-test.ensures.none (passing_over judges s (left_in c.loop-remaining.rows).rest) in
-    rows_passed (g.O.Sink.told c.args.out.now) (g.O.Sink.told c.loop-remaining.out) page.waiting c.loop-remaining.page.waiting (lines_of page (page_rows judges (left_in c.args.rows.now) c.args.limit))
-    (rw none at c.loop-remaining.invariant.so_far)
+returns-clause-ok g c = rows_passed _ _ (rw (c.loop-remaining-test.ensures.none _) at c.loop-remaining.invariant.so_far)
 
 pub returns-clause-fits : goal.returns-clause-fits
 returns-clause-fits g c =
@@ -157,25 +112,19 @@ returns-clause-fits g c =
 pub returns-clause-end : goal.returns-clause-end
 returns-clause-end g c =
     let judges = g.J.Judge.judges in
-    let s = (left_in c.args.rows.now).source in
-    let none = c.loop-remaining-test.ensures.none (passing_over judges s (left_in c.loop-remaining.rows).rest) in
-    let last = row_if c.loop-remaining.some (left_in c.loop-remaining.rows).row in
-    let empty = ap length none in
-    let same = c.loop-remaining.invariant.more in
-    ends_after judges s (left_in c.loop-remaining.rows).source c.loop-remaining.invariant.source (left_in c.loop-remaining.rows).rest (left_in c.advance-more.new.self).rest
+    let inv = c.loop-remaining.invariant in
+    let none = c.loop-remaining-test.ensures.none (passing_over judges (left_in c.args.rows.now).source (left_in c.loop-remaining.rows).rest) in
+    ends_after judges (left_in c.loop-remaining.rows).rest (left_in c.advance-more.new.self).rest
     (page_rows judges (left_in c.args.rows.now) c.args.limit) (coming judges (left_in c.args.rows.now))
-    (left_in c.advance-more.new.self).row c.last_row-last.result last c.advance-more.result _ c.advance-more.ensures.next c.advance-more.ensures.none
-    (omega (arith, empty, same)) c.last_row-last.ensures
-    (sym (ap (λ (rows : List SpanRow). page_end rows last) none) ∙ c.loop-remaining.invariant.end)
+    (left_in c.advance-more.new.self).row c.advance-more.result _ inv.source c.advance-more.ensures.next c.advance-more.ensures.none
+    (omega (arith, ap length none, inv.more)) c.last_row-last.ensures
+    (sym (ap (λ (rows : List SpanRow). page_end rows (row_if c.loop-remaining.some (left_in c.loop-remaining.rows).row)) none) ∙ inv.end)
 
 pub returns-clause-steps : goal.returns-clause-steps
 returns-clause-steps g c =
     let judges = g.J.Judge.judges in
-    let s = (left_in c.args.rows.now).source in
-    let none = ap length (c.loop-remaining-test.ensures.none (passing_over judges s (left_in c.loop-remaining.rows).rest)) in
-    let same = c.loop-remaining.invariant.more in
-    last_try judges s (left_in c.loop-remaining.rows).source c.loop-remaining.invariant.source (left_in c.args.rows.now).rest (left_in c.loop-remaining.rows).rest
-    (left_in c.advance-more.new.self).rest c.loop-remaining.invariant.tried c.advance-more.ensures.left
-    c.args.steps.now c.loop-remaining.steps c.advance-more.new.steps c.loop-remaining.invariant.steps (page_rows judges (left_in c.args.rows.now) c.args.limit)
-    (left_in c.advance-more.new.self).row c.advance-more.result
-    c.advance-more.ensures.next c.advance-more.ensures.none (omega (arith, none, same)) c.advance-more.ensures.steps
+    let inv = c.loop-remaining.invariant in
+    let none = ap length (c.loop-remaining-test.ensures.none (passing_over judges (left_in c.args.rows.now).source (left_in c.loop-remaining.rows).rest)) in
+    last_try inv.source _ _ _ inv.tried c.advance-more.ensures.left _ inv.steps judges (page_rows judges (left_in c.args.rows.now) c.args.limit)
+    (left_in c.advance-more.new.self).row c.advance-more.result c.advance-more.ensures.next c.advance-more.ensures.none
+    (omega (arith, none, inv.more)) c.advance-more.ensures.steps

@@ -35,12 +35,10 @@ loop-row-init g c =
 pub loop-row-preserved : goal.loop-row-preserved
 loop-row-preserved g c =
     let s = (left_in c.args.rows.now).source in
-    let t = (left_in c.loop-row.rows).source in
     let old = (left_in c.loop-row.rows).rest in
     let new = (left_in c.next-in-loop-row.new.self).rest in
-    let row = c.in-Some-next.row in
     let inv = c.loop-row.invariant in
-    let next = goes_on g.J.Judge.judges s t inv.source old new row c.in-Some-next.ensures.next in
+    let next = goes_on inv.source g.J.Judge.judges old new c.in-Some-next.ensures.next in
     record {
       source = c.in-Some-next.ensures.source ∙ inv.source;
       rows = one_counted c.loop-row.count c.saturating_add-count.result (length (passing_over g.J.Judge.judges s new))
@@ -50,17 +48,16 @@ loop-row-preserved g c =
       first = inv.first;
       last = sym (ap (λ (rows : List SpanRow). page_end rows (later_row (Some c.in-Some.row) c.loop-row.later)) next) ∙ inv.last;
       first_fits = inv.first_fits;
-      later_fits = fits_page g.J.Judge.judges s t inv.source [] [] row c.in-Some-next.ensures.fits;
-      tried = ends_on (left_in c.args.rows.now).rest old new inv.tried c.in-Some-next.ensures.left;
-      steps = took_found g.J.Judge.judges s t inv.source (left_in c.args.rows.now).rest old new inv.tried c.in-Some-next.ensures.left c.args.steps.now
-          c.loop-row.steps c.next-in-loop-row.new.steps inv.steps true refl c.in-Some-next.ensures.steps;
+      later_fits = fits_page inv.source c.in-Some-next.ensures.fits;
+      tried = ends_on new inv.tried c.in-Some-next.ensures.left;
+      steps = took_found inv.source _ old new inv.tried c.in-Some-next.ensures.left _ inv.steps true refl c.in-Some-next.ensures.steps;
     }
 
 pub returns-clause-rows : goal.returns-clause-rows
 returns-clause-rows g c =
     let s = (left_in c.args.rows.now).source in
     let inv = c.loop-row.invariant in
-    let none = goes_out g.J.Judge.judges s (left_in c.loop-row.rows).source inv.source (left_in c.loop-row.rows).rest [] [] c.in_default.ensures.next.0 in
+    let none = goes_out inv.source g.J.Judge.judges (left_in c.loop-row.rows).rest c.in_default.ensures.next.0 in
     rows_all c.loop-row.count (2 ^ 64 - 1) (length (coming g.J.Judge.judges (left_in c.args.rows.now))) (passing_over g.J.Judge.judges s (left_in c.loop-row.rows).rest) none inv.few inv.rows
 
 pub returns-clause-steps : goal.returns-clause-steps
@@ -69,6 +66,4 @@ returns-clause-steps g c =
     let inv = c.loop-row.invariant in
     trial_takes (checks_over g.J.Judge.judges s) s.names s.document (left_in c.args.rows.now).rest (length s.asked) c.args.steps.now
     c.next-in-loop-row.new.steps (length_checks (known s.tests g.J.Judge.judges) s.asked)
-    (took_none g.J.Judge.judges s (left_in c.loop-row.rows).source inv.source (left_in c.args.rows.now).rest (left_in c.loop-row.rows).rest
-    (left_in c.next-in-loop-row.new.self).rest inv.tried c.in_default.ensures.left
-    c.args.steps.now c.loop-row.steps c.next-in-loop-row.new.steps inv.steps false refl c.in_default.ensures.next.1 c.in_default.ensures.steps)
+    (took_none inv.source _ _ _ inv.tried c.in_default.ensures.left _ inv.steps false refl c.in_default.ensures.next.1 c.in_default.ensures.steps)
