@@ -19,7 +19,7 @@ use Rattle.rematch_program.proofs.PageSteps.{lines_next, note_is}
 
 -- ---- what is kept of its lines writes them
 
-module _ (p : Page) (kept : Line) (is : kept ≡ kept_of p.form p.names) (row : SpanRow) (fits : Fits p row) where
+module _ (p : Page) {kept : Line} (is : kept ≡ kept_of p.form p.names) {row : SpanRow} (fits : Fits p row) where
   pub as_wide : length row ≡ length kept.heads
   as_wide = fits.lengths ∙ sym (kept_width p.form p.names kept is)
 
@@ -75,7 +75,7 @@ module _ (first : Page) {before : Page} (same : before ≡ with_waiting before.w
   line_now = ap (λ (p : Page). line_of p spans) same ∙ ap (line_of first) shown
 
   module _ {old mid : Flow} (new : Flow) {rows rest : List SpanRow} {whole : List ℕ} (front : rows ≡ row ∷ rest)
-    (so_far : SoFar (change old mid) before.waiting (lines_of first rows) whole) where
+      (so_far : SoFar (change old mid) before.waiting (lines_of first rows) whole) where
     pub line_passed : {waiting : List ℕ} → Passes before.waiting (line_of before spans) waiting (change mid new) → SoFar (change old new) waiting (lines_of first rest) whole
     line_passed {waiting} passes =
         so_far_more old mid new before.waiting waiting (line_of first row) (lines_of first rows) (lines_of first rest) whole so_far (lines_next (line_of first) rows rest row front)

@@ -1,4 +1,4 @@
-use Rattle.std.proofs.Common.{◌≡◌, ◌+◌, ◌-◌, ◌^◌, ℕ, List, [], None, Some, true, false, refl, sym, ap, ◌∙◌, arith, length, min}
+use Rattle.std.proofs.Common.{◌≡◌, ◌+◌, ◌-◌, ◌^◌, ℕ, List, None, Some, true, false, refl, sym, ap, ◌∙◌, arith, length, min}
 use Rattle.std.specs.Prelude.{slice_get}
 use Rattle.spanner_model.specs.Answers.{SpanRow, page_end}
 use Rattle.spanner_engine.specs.Left.{checks_over, passing_over}
