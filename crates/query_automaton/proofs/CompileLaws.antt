@@ -5,7 +5,6 @@ use Rattle.std.proofs.Math.Seq.{take-length}
 use Rattle.std.proofs.lemmas.List.{take-append-drop}
 use Rattle.span_core.specs.NameSets.{Ascending}
 use Rattle.span_core.specs.Lists.{Has}
-use Rattle.span_core.specs.declared.TheConstants.{MOST_VARIABLES}
 use Rattle.spanner_model.specs.Captures.{VarName, Mapping}
 use Rattle.spanner_model.specs.Expression.{ExprTree, QueryTree, project, union_all, join_all}
 use Rattle.spanner_model.specs.ExprView.{query_of}
@@ -29,7 +28,7 @@ use Rattle.marked_automaton.proofs.Sizes.{reduct_is_no_larger}
 use Rattle.algebra.specs.JoinedMarks.{agree_on, joined}
 use Rattle.algebra.specs.JoinedNames.{all_names}
 use Rattle.algebra.specs.Operations.{union_of, join_of, moved_way}
-use Rattle.algebra.specs.Uniting.{graph_over, union_over}
+use Rattle.algebra.specs.Uniting.{graph_over}
 use Rattle.algebra.proofs.ReductJoins.{reduct_of_join}
 use Rattle.algebra.proofs.UnionsOver.{reduct_of_union_over, union_over_whole}
 use Rattle.algebra.proofs.Whole.{join_whole}
@@ -62,8 +61,8 @@ asked_part o q n es e h a = record {
   named = λ x v. a.named x (part_named o es e x h v);
 }
 
-pub asked_sub : (q : QueryTree) (n : ℕ) (names : List VarName) (e : ExprTree) → IsAsked q n (project names e) → IsAsked q n e
-asked_sub q n names e a = record { sound = a.sound; sound_expr = a.sound_expr.0; named = λ x v. a.named x v }
+pub asked_sub : {q : QueryTree} {n : ℕ} {names : List VarName} {e : ExprTree} → IsAsked q n (project names e) → IsAsked q n e
+asked_sub a = record { sound = a.sound; sound_expr = a.sound_expr.0; named = λ x v. a.named x v }
 
 -- ---- parts with small atoms
 
@@ -152,7 +151,7 @@ pub record SoFar (q : QueryTree) (n : ℕ) (o : Operation) (es : List ExprTree) 
   pub reduces : ReducesMarked a (automaton_of (of_lets q.lets n) (all_of o (take k es)))
   pub small : (e : ExprTree) → Has (take k es) e → HasSmallAtoms e
 
-module _ (q : QueryTree) (lets : List Marked) (known : AreCompiled q lets) where
+module _ {q : QueryTree} {lets : List Marked} (known : AreCompiled q lets) where
   abbrev N : ℕ
   N = length lets
 
@@ -169,8 +168,8 @@ module _ (q : QueryTree) (lets : List Marked) (known : AreCompiled q lets) where
   Lets = answers_of_lets q.lets [] N
 
   -- names, and that it is whole, of an expression's automaton
-  pub shape : (e : ExprTree) → IsAsked q N e → IsFor [] (VarOf V e) (Answer V Lets [] e) (automaton_of L e)
-  shape e asked =
+  pub shape : {e : ExprTree} → IsAsked q N e → IsFor [] (VarOf V e) (Answer V Lets [] e) (automaton_of L e)
+  shape {e} asked =
       expr_for [] (λ i b at. absurd (cc)) N V S Lets L
       (lets_for [] (λ i b at. absurd (cc)) q.lets asked.sound.sound_lets N known.few N (omega arith)) (told_lets q.lets N) e asked.sound_expr
 
@@ -180,7 +179,7 @@ module _ (q : QueryTree) (lets : List Marked) (known : AreCompiled q lets) where
       elim (var_named V S (NameInLets q.lets) (lets_named q.lets a.sound.sound_lets N) N e x a.sound_expr v) as (λ _. NameOf q x) [ inl i ↦ a.named x i | inr j ↦ inl j ]
 
   part_names : (e : ExprTree) → IsAsked q N e → HasNamesOf (NameOf q) (automaton_of L e)
-  part_names e a = let s = shape e a in record { ascend = s.ascending; those = λ z h. var_name e a z ((s.names z).0 h) }
+  part_names e a = let s = shape a in record { ascend = s.ascending; those = λ z h. var_name e a z ((s.names z).0 h) }
 
   -- ---- the automata of the first parts
 
@@ -217,17 +216,17 @@ module _ (q : QueryTree) (lets : List Marked) (known : AreCompiled q lets) where
   names_all Union P x xs h = names_combined Union P xs (automaton_of L x) (h x (inl refl)) (λ e i. h e (inr i))
   names_all Join P x xs h = names_combined Join P xs (automaton_of L x) (h x (inl refl)) (λ e i. h e (inr i))
 
-  pub so_far_first : (o : Operation) (es : List ExprTree) (x : ExprTree) (a : Marked) → slice_get es 0 ≡ Some x → IsCompiledFrom q N x a → SoFar q N o es 1 a
-  so_far_first o [] x a at c = absurd (cc)
-  so_far_first o (e ∷ es) x a at c =
+  pub so_far_first : {o : Operation} {es : List ExprTree} {x : ExprTree} {a : Marked} → slice_get es 0 ≡ Some x → IsCompiledFrom q N x a → SoFar q N o es 1 a
+  so_far_first {es = []} at c = absurd (cc)
+  so_far_first {o = o} {es = e ∷ es} {x = x} at c =
       let same : x ≡ e = cc in record {
         reduces = rw (← ap (automaton_of L) same ∙ sym (alone L o e)) c.reduces;
         small = λ w i. elim i as (λ _. HasSmallAtoms w) [ inl j ↦ subst HasSmallAtoms (same ∙ j) c.small | inr j ↦ absurd j ];
       }
 
-  pub so_far_all : (o : Operation) (es : List ExprTree) (a : Marked) (k : ℕ) → k ≡ length es → SoFar q N o es k a → IsCompiledFrom q N (all_of o es) a
-  so_far_all o es a k e s =
-      let whole : take k es ≡ es = ap (λ n. take n es) e ∙ take-length es in record {
+  pub so_far_all : {o : Operation} {es : List ExprTree} {k : ℕ} {a : Marked} → IsAsked q N (all_of o es) → (2 ≤ length es → k ≡ length es) → SoFar q N o es k a → IsCompiledFrom q N (all_of o es) a
+  so_far_all {o} {es} {k} asked e s =
+      let whole : take k es ≡ es = ap (λ n. take n es) (e (two_parts V S N o es asked.sound_expr)) ∙ take-length es in record {
         reduces = rw (← whole) s.reduces;
         small = all_small o es (λ g i. s.small g (rw whole i));
       }
@@ -247,7 +246,7 @@ module _ (q : QueryTree) (lets : List Marked) (known : AreCompiled q lets) where
     prefix_whole =
         let f = first_taken es k l (omega (arith, has_two)) in
         rw f.2
-        (whole_all o f.0 f.1 (λ e h. (shape e (taken_asked e (rw f.2 h))).whole))
+        (whole_all o f.0 f.1 (λ e h. (shape (taken_asked e (rw f.2 h))).whole))
 
     -- names of the query
     prefix_names : HasNamesOf (NameOf q) (automaton_of L (all_of o (take k es)))
@@ -266,7 +265,7 @@ module _ (q : QueryTree) (lets : List Marked) (known : AreCompiled q lets) where
         let le = distinct-le (all_names A.names B.names) least.0 (ascending-distinct (all_names A.names B.names) two.0) (λ z n. least.2 z (two.1 z n)) in
         omega (arith, le, least.1)
 
-  module _ (o : Operation) (es : List ExprTree) (asked : IsAsked q N (all_of o es)) (k : ℕ) (l : 1 ≤ k) (y : ExprTree) (at : slice_get es k ≡ Some y) (a p : Marked)
+  module _ {o : Operation} {es : List ExprTree} {k : ℕ} {y : ExprTree} {a p : Marked} (asked : IsAsked q N (all_of o es)) (l : 1 ≤ k) (at : slice_get es k ≡ Some y)
       (so_far : SoFar q N o es k a) (part : IsCompiledFrom q N y p) where
     abbrev A : Marked
     A = automaton_of L (all_of o (take k es))
@@ -286,7 +285,7 @@ module _ (q : QueryTree) (lets : List Marked) (known : AreCompiled q lets) where
       reduce : ReducesMarked (of_two o a p) (of_two o A B)
       reduce =
           two_reduce o a A p B marked.0.whole (prefix_whole o es asked k l) marked.1.whole
-          (shape y (asked_part o q N es y y_has asked)).whole so_far.reduces part.reduces
+          (shape (asked_part o q N es y y_has asked)).whole so_far.reduces part.reduces
 
       pub so_far_next : (c : Marked) → ReducesMarked c (of_two o a p) → SoFar q N o es (k + 1) c
       so_far_next c r = record {
@@ -311,9 +310,9 @@ module _ (q : QueryTree) (lets : List Marked) (known : AreCompiled q lets) where
       too_large OutOfMemory h = tt
 
 -- a part has fewer nodes than the whole, and can be compiled where the whole can
-pub part_can : (o : Operation) (b : BegunQuery) (es : List ExprTree) (k : ℕ) (e : ExprTree) → slice_get es k ≡ Some e → CanCompile b (all_of o es) →
+pub part_can : (o : Operation) {b : BegunQuery} (es : List ExprTree) (k : ℕ) {e : ExprTree} → slice_get es k ≡ Some e → CanCompile b (all_of o es) →
     (expr_nodes e < expr_nodes (all_of o es)) × CanCompile b e
-part_can o b es k e at can =
+part_can o {b} es k {e} at can =
     let q = query_of b.query in
     let n = length b.lets in
     let part = part_at (vars_of_lets q.lets n) (sure_of_lets q.lets n) n o es k e at can.asked.sound_expr in

@@ -19,15 +19,17 @@ use Rattle.place_automaton.specs.Variables.{with_vars}
 use Rattle.place_automaton.proofs.CountLaws.{count_law}
 use Rattle.query_automaton.specs.declared.fault.CompileFault.{CompileFault}
 use Rattle.query_automaton.specs.declared.fault.CompileFault.TheVariants.{Size, Held, Ends, Spent}
+use Rattle.spanner_model.specs.ExprView.{query_of}
+use Rattle.query_automaton.specs.BegunQuery.{BegunQuery}
 use Rattle.query_automaton.specs.Compiling.{IsCompiledFrom}
 use Rattle.query_automaton.specs.Held.{ArePartsWithin, HasCause, HasCauseOf, IsHoldFault, IsWithin, QueriesOfFewEnds, QueriesOfFewSteps, QueriesOfSmallParts, Takes, waits, waits_of_lets}
-use Rattle.query_automaton.specs.Parts.{HasJoinStep, HasLargePart, HasLargePartOf, HasPart, HasSmallAtoms, HasUnionStep, PartNumbers, numbers_of}
+use Rattle.query_automaton.specs.Parts.{HasJoinStep, HasLargePartOf, HasPart, HasSmallAtoms, HasUnionStep, PartNumbers, numbers_of}
 use Rattle.query_automaton.specs.QueryAutomaton.{automaton_of, of_join, of_lets, of_union, together, united}
 use Rattle.query_automaton.proofs.Combining.{Operation, Union, Join, all_of}
 use Rattle.query_automaton.proofs.CompileLaws.{SoFar, all_small}
 use Rattle.query_automaton.specs.Steps.{minus_steps_of, steps_of, steps_within}
 use Rattle.query_automaton.specs.Told.{IsTold}
-use Rattle.query_automaton.proofs.StepLaws.{step_le, step_more, steps_next, steps_part}
+use Rattle.query_automaton.proofs.StepLaws.{made_cost, step_le, step_more, steps_next, steps_part}
 use Rattle.query_automaton.proofs.PartLaws.{join_part_of, large_part, union_part_of}
 
 -- ---- what waits
@@ -135,18 +137,17 @@ reduced_size a A marked r =
     let less = reduct_is_no_larger a.graph A.graph marked.whole marked.some_byte r in
     omega (arith, less.0, less.1, less.2)
 
-module _ (q : QueryTree) (n : ℕ) where
-  abbrev L : ℕ → Marked
-  L = of_lets q.lets n
+pub compiled_size : {q : QueryTree} {n : ℕ} {e : ExprTree} {a : Marked} → IsCompiledFrom q n e a → IsMarked a → (most : ℕ) → ArePartsWithin (of_lets q.lets n) e most → size a.graph ≤ most
+compiled_size {q} {n} {e} {a} made marked most within =
+    let L = of_lets q.lets n in
+    omega (arith, reduced_size a (automaton_of L e) marked made.reduces.1, part_size L most e within made.small)
 
-  pub compiled_size : (e : ExprTree) (a : Marked) → IsCompiledFrom q n e a → IsMarked a → (most : ℕ) → ArePartsWithin L e most → size a.graph ≤ most
-  compiled_size e a made marked most within =
-      omega (arith, reduced_size a (automaton_of L e) marked made.reduces.1, part_size L most e within made.small)
-
-  pub so_far_size : (o : Operation) (es : List ExprTree) (k : ℕ) (a : Marked) → SoFar q n o es k a → IsMarked a → (most : ℕ) → ArePartsWithin L (all_of o es) most → size a.graph ≤ most
-  so_far_size o es k a so_far marked most within =
-      let first = all_of o (take k es) in
-      omega (arith, reduced_size a (automaton_of L first) marked so_far.reduces.1, part_size L most first (λ n p. within n (part_of_first L o k es n p)) (all_small o (take k es) so_far.small))
+pub so_far_size : {q : QueryTree} {n : ℕ} {o : Operation} {es : List ExprTree} {k : ℕ} {a : Marked} → SoFar q n o es k a → IsMarked a →
+    (most : ℕ) → ArePartsWithin (of_lets q.lets n) (all_of o es) most → size a.graph ≤ most
+so_far_size {q} {n} {o} {es} {k} {a} so_far marked most within =
+    let L = of_lets q.lets n in
+    let first = all_of o (take k es) in
+    omega (arith, reduced_size a (automaton_of L first) marked so_far.reduces.1, part_size L most first (λ n p. within n (part_of_first L o k es n p)) (all_small o (take k es) so_far.small))
 
 -- ---- causes
 
@@ -203,18 +204,20 @@ module _ (L : ℕ → Marked) where
       (omega (arith, steps_next most o es k e at))
 
   -- of the two sides of a difference
-  pub cause_left : (held effort : ℕ) (e g : ExprTree) (fault : CompileFault) → HasCauseOf L held effort e fault → HasCauseOf L held effort (minus e g) fault
-  cause_left held effort e g fault h =
-      cause_up held held effort effort e (minus e g) fault (λ n p. inl p)
+  pub cause_left : (held effort : ℕ) {x : ExprTree} (e g : ExprTree) → x ≡ minus e g → (fault : CompileFault) → HasCauseOf L held effort e fault → HasCauseOf L held effort x fault
+  cause_left held effort e g is fault h =
+      rw is
+      (cause_up held held effort effort e (minus e g) fault (λ n p. inl p)
       (λ most within. omega (arith, mul-le (waits e) most (waits (minus e g)) most (le-max_left (waits e) (1 + waits g)) (omega arith)))
-      (λ most within le. omega (arith, le)) h
+      (λ most within le. omega (arith, le)) h)
 
-  pub cause_right : (held effort after : ℕ) (e g : ExprTree) (A : Marked) (fault : CompileFault) → ((most : ℕ) → ArePartsWithin L e most → size A.graph ≤ most) →
-      Takes L e effort after → HasCauseOf L (held + size A.graph) after g fault → HasCauseOf L held effort (minus e g) fault
-  cause_right held effort after e g A fault fits takes h =
-      cause_up held (held + size A.graph) effort after g (minus e g) fault (λ n p. inr (inl p))
+  pub cause_right : (held effort after : ℕ) {x : ExprTree} (e g : ExprTree) (A : Marked) → x ≡ minus e g → (fault : CompileFault) →
+      ((most : ℕ) → ArePartsWithin L e most → size A.graph ≤ most) → Takes L e effort after → HasCauseOf L (held + size A.graph) after g fault → HasCauseOf L held effort x fault
+  cause_right held effort after e g A is fault fits takes h =
+      rw is
+      (cause_up held (held + size A.graph) effort after g (minus e g) fault (λ n p. inr (inl p))
       (λ most within. omega (arith, fits most (λ n p. within n (inl p)), mul-le (1 + waits g) most (waits (minus e g)) most (le-max_right (waits e) (1 + waits g)) (omega arith)))
-      (λ most within le. step_le effort after (steps_within most e) (steps_within most g) (steps_within most (minus e g)) (takes most (λ n p. within n (inl p))) le (omega arith)) h
+      (λ most within le. step_le effort after (steps_within most e) (steps_within most g) (steps_within most (minus e g)) (takes most (λ n p. within n (inl p))) le (omega arith)) h)
 
   -- what both sides take
   pub sides_take : (before middle after : ℕ) (e g : ExprTree) → Takes L e before middle → Takes L g middle after → (most : ℕ) → ArePartsWithin L (minus e g) most →
@@ -244,14 +247,29 @@ module _ (L : ℕ → Marked) where
       cause_up held held effort effort e (project names e) fault (λ n p. inl p) (λ most within. omega arith)
       (λ most within le. omega (arith, le)) h
 
-  pub cause_project : (held effort after cost : ℕ) (names : List VarName) (e : ExprTree) → ((most : ℕ) → ArePartsWithin L e most → cost ≤ steps_of most) → Takes L e effort after →
-      (fault : CompileFault) → IsTold (λ f. f ≡ OutOfMemory) 0 after cost fault → HasCauseOf L held effort (project names e) fault
-  cause_project held effort after cost names e costs takes (Size fault) h = rw h tt
-  cause_project held effort after cost names e costs takes (Held count) h = absurd h
-  cause_project held effort after cost names e costs takes (Ends count) h = absurd (omega (arith, h.0, h.1))
-  cause_project held effort after cost names e costs takes Spent h = λ most within.
-      let inside : ArePartsWithin L e most = λ n p. within n (inl p) in
-      step_le effort after (steps_within most e) (steps_of most) (steps_of most + steps_within most e) (takes most inside) (omega (arith, h, costs most inside)) (omega arith)
+-- the automata of its lets
+abbrev pub lets_of : BegunQuery → ℕ → Marked
+lets_of b = of_lets (query_of b.query).lets (length b.lets)
+
+-- a projection of what is made of an expression
+module _ {q : QueryTree} {n : ℕ} {e : ExprTree} {a : Marked} (names : List VarName) (made : IsCompiledFrom q n e a) (marked : IsMarked a) (effort after : ℕ)
+    (takes : Takes (of_lets q.lets n) e effort after) where
+  few : (most : ℕ) → ArePartsWithin (of_lets q.lets n) e most → 64 * size a.graph ≤ steps_of most
+  few most within = made_cost (size a.graph) most (compiled_size made marked most within)
+
+  pub takes_project : (last : ℕ) → after ≤ last + 64 * size a.graph → Takes (of_lets q.lets n) (project names e) effort last
+  takes_project last spent most within =
+      let inside : ArePartsWithin (of_lets q.lets n) e most = λ n p. within n (inl p) in
+      step_more effort after last (steps_within most e) (steps_of most) (steps_of most + steps_within most e) (takes most inside) (omega (arith, spent, few most inside)) (omega arith)
+
+  pub cause_project : (held : ℕ) (fault : CompileFault) → IsTold (λ f. f ≡ OutOfMemory) 0 after (64 * size a.graph) fault →
+      HasCauseOf (of_lets q.lets n) held effort (project names e) fault
+  cause_project held (Size fault) h = rw h tt
+  cause_project held (Held count) h = absurd h
+  cause_project held (Ends count) h = absurd (omega (arith, h.0, h.1))
+  cause_project held Spent h = λ most within.
+      let inside : ArePartsWithin (of_lets q.lets n) e most = λ n p. within n (inl p) in
+      step_le effort after (steps_within most e) (steps_of most) (steps_of most + steps_within most e) (takes most inside) (omega (arith, h, few most inside)) (omega arith)
 
 -- ---- queries
 
@@ -279,7 +297,7 @@ module _ (q : QueryTree) (held effort : ℕ) (k : ℕ) (few : k ≤ length q.let
   -- one let more is held
   module _ (l : VarName × ExprTree) (at : slice_get q.lets k ≡ Some l) (a : Marked) (made : IsCompiledFrom q k l.1 a) (marked : IsMarked a) where
     pub held_more : (new : ℕ) → new ≤ held + size a.graph → (most : ℕ) → IsWithin q most → new ≤ (k + 1) * most
-    held_more new le most within = omega (arith, le, so_far most within, compiled_size q k l.1 a made marked most (within.0 k l at))
+    held_more new le most within = omega (arith, le, so_far most within, compiled_size made marked most (within.0 k l at))
 
     pub kept_fault : (fault : CompileFault) → IsHoldFault (held + size a.graph) fault → HasCause q fault
     kept_fault Spent h = absurd h

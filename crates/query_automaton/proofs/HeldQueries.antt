@@ -1,5 +1,5 @@
 -- What is held when the lets and the body of a query are compiled.
-use Rattle.std.proofs.Common.{◌≡◌, ℕ, ◌+◌, ◌*◌, ◌≤◌, ◌↔◌, List, Some, length, take, refl, sym, subst, arith}
+use Rattle.std.proofs.Common.{◌≡◌, ℕ, ◌+◌, ◌*◌, ◌≤◌, ◌↔◌, Some, length, take, refl, sym, subst, arith}
 use Rattle.std.specs.Prelude.{slice_get}
 use Rattle.std.proofs.lemmas.Option.{slice_get_within}
 use Rattle.spanner_model.specs.Captures.{VarName}
@@ -19,10 +19,8 @@ use Rattle.algebra.specs.declared.fault.JoinFault.TheVariants as join
 use Rattle.algebra_minus.specs.declared.fault.MinusFault.{MinusFault}
 use Rattle.algebra_minus.specs.declared.fault.MinusFault.TheVariants as minus
 use Rattle.algebra_minus.specs.Steps.{IsMinusRefusal, IsRefusedWithin}
-use Rattle.algebra.specs.JoinedMarks.{agree_on, joined}
 use Rattle.algebra.specs.Joining.{IsJoinFault, IsJoinOf, IsSpentOn, most_steps}
 use Rattle.algebra.specs.JoinedNames.{all_names}
-use Rattle.algebra.specs.Operations.{join_of}
 use Rattle.algebra.specs.Uniting.{union_over}
 use Rattle.query_automaton.proofs.Combined.{united_made}
 use Rattle.query_automaton.specs.declared.effort.TheConstants.{MOST_STEPS}
@@ -31,7 +29,7 @@ use Rattle.query_automaton.specs.declared.fault.CompileFault.TheVariants.{Size, 
 use Rattle.query_automaton.specs.BegunQuery.{BegunQuery, HasCauseIn, IsCompiledIn, TakesIn}
 use Rattle.query_automaton.specs.Compiling.{AreCompiled, IsCompiledFrom}
 use Rattle.query_automaton.specs.Held.{ArePartsWithin, HasCause, HasCauseOf, IsHoldFault, IsWithin, Takes}
-use Rattle.query_automaton.specs.QueryAutomaton.{of_atom, of_join, of_lets, of_minus, of_union}
+use Rattle.query_automaton.specs.QueryAutomaton.{of_atom, of_join, of_minus, of_union}
 use Rattle.query_automaton.specs.Steps.{join_steps, minus_steps, steps_of_lets, steps_of_query, steps_within}
 use Rattle.query_automaton.specs.Parts.{HasSmallAtoms}
 use Rattle.query_automaton.specs.Told.{IsTold, atom_fault_of, compile_fault, minus_fault}

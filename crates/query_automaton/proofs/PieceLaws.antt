@@ -1,5 +1,5 @@
 -- What is made of atoms, names, projections and lets when they are compiled.
-use Rattle.std.proofs.Common.{◌≡◌, ℕ, zero, suc, ◌<◌, ◌≤◌, ◌↔◌, ◌⊎◌, List, [], ◌∷◌, ◌++◌, length, length-append, Some, inl, inr, refl, sym, ap, subst, arith, ◌∙◌}
+use Rattle.std.proofs.Common.{◌≡◌, ℕ, zero, suc, ◌<◌, ◌≤◌, ◌↔◌, ◌⊎◌, List, Box, Global, [], ◌∷◌, ◌++◌, length, length-append, Some, inl, inr, refl, sym, ap, subst, arith, ◌∙◌}
 use Rattle.std.specs.Prelude.{slice_get, if◌then◌else◌, ◌-◌, ◌^◌}
 use Rattle.std.proofs.Math.Nat.{min-le_left}
 use Rattle.std.proofs.lemmas.Bool.{eq-eqb, ne_eqb, cases_lt}
@@ -11,14 +11,17 @@ use Rattle.spanner_model.specs.Sequential.{HasVar}
 use Rattle.spanner_model.specs.Tree.{Tree}
 use Rattle.spanner_model.specs.Expression.{AtomTree, ExprTree, QueryTree, atom, project}
 use Rattle.spanner_model.specs.declared.query.Query.{Query}
-use Rattle.spanner_model.specs.ExprView.{query_of}
+use Rattle.spanner_model.specs.ExprView.{expr_of, query_of}
+use Rattle.spanner_model.specs.declared.expression.Expr.{Expr}
+use Rattle.spanner_model.specs.declared.expression.Expr.TheVariants.{Project}
+use Rattle.spanner_model.proofs.ExprTrees.{expr_of-Project}
 use Rattle.spanner_model.specs.Sound.{IsSound}
 use Rattle.spanner_model.proofs.ExprLaws.{let_named}
 use Rattle.span_core.proofs.HasLaws.{place_of-Has}
 use Rattle.spanner_model.proofs.NameLaws.{ascending-distinct, same_names}
 use Rattle.marked_automaton.specs.declared.fault.SizeFault.{SizeFault}
 use Rattle.marked_automaton.specs.declared.fault.SizeFault.TheVariants.{States, Ways, OutOfMemory}
-use Rattle.marked_automaton.specs.Automaton.{Automaton, IsMarked, Marked}
+use Rattle.marked_automaton.specs.Automaton.{IsMarked, Marked}
 use Rattle.marked_automaton.specs.Marks.{left_of, remarked}
 use Rattle.marked_automaton.specs.Reduct.{Reduces, ReducesMarked}
 use Rattle.marked_automaton.proofs.Keeping.{all_kept, keeping_law}
@@ -67,18 +70,21 @@ module _ (u : AtomTree) where
 
 -- ---- projections
 
-module _ (q : QueryTree) (lets : List Marked) (known : AreCompiled q lets) (keep : List VarName) (e : ExprTree) (asked : IsAsked q (length lets) (project keep e))
-    (a : Marked) (part : IsCompiledFrom q (length lets) e a) where
+-- the expression is a projection of what is in the box
+pub project_of : {x y : Expr} {names : List VarName} {sub : Box Expr Global} → x ≡ Project names sub → y ≡ sub.value → expr_of x ≡ project names (expr_of y)
+project_of {names = names} {sub = sub} is inside = ap expr_of is ∙ (expr_of-Project names sub ∙ ap (λ x. project names (expr_of x)) (sym inside))
+
+module _ {b : BegunQuery} {keep : List VarName} {e : ExprTree} {a : Marked} (can : CanCompile b (project keep e)) (part : IsCompiledIn b e a) where
   abbrev E : Marked
-  E = automaton_of (of_lets q.lets (length lets)) e
+  E = automaton_of (of_lets (query_of b.query).lets (length b.lets)) e
 
   pub kept_there : (x : VarName) → Has keep x → Has a.names x
   kept_there x h =
-      let sh = shape q lets known e (asked_sub q (length lets) keep e asked) in
-      subst (λ (ns : List VarName). Has ns x) (sym part.reduces.0) ((sh.names x).1 (asked.sound_expr.1 x h).0)
+      let sh = shape can.known (asked_sub can.asked) in
+      subst (λ (ns : List VarName). Has ns x) (sym part.reduces.0) ((sh.names x).1 (can.asked.sound_expr.1 x h).0)
 
-  pub projected : (p : Marked) → p.names ≡ keep → Reduces p.graph (remarked (left_of a.names keep) a.graph) → IsCompiledFrom q (length lets) (project keep e) p
-  projected p names reduces = record {
+  pub projected : {p : Marked} → p.names ≡ keep → Reduces p.graph (remarked (left_of a.names keep) a.graph) → IsCompiledIn b (project keep e) p
+  projected {p} names reduces = record {
     reduces = (
       names,
       reduct_of_reduct p.graph (remarked (left_of E.names keep) a.graph) (remarked (left_of E.names keep) E.graph)

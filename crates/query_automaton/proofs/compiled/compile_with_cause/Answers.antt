@@ -1,5 +1,4 @@
 use Rattle.std.proofs.Common.{◌≡◌, ℕ, ◌+◌, ◌*◌, ◌≤◌, length, sym, ◌∙◌, subst}
-use Rattle.spanner_model.specs.declared.query.Query.{Query}
 use Rattle.spanner_model.specs.ExprView.{query_of}
 use Rattle.spanner_model.specs.Expression.{QueryTree}
 use Rattle.spanner_model.specs.Sound.{IsSound}
@@ -8,7 +7,7 @@ use Rattle.marked_automaton.specs.Reduct.{Reduces, ReducesMarked}
 use Rattle.marked_automaton.proofs.Reducts.{reduct_of_reduct}
 use Rattle.algebra.proofs.Followed.{handed_on}
 use Rattle.query_automaton.specs.CompiledQuery.{IsCompiled}
-use Rattle.query_automaton.specs.Compiling.{AreCompiled, IsCompiledFrom}
+use Rattle.query_automaton.specs.Compiling.{IsCompiledFrom}
 use Rattle.query_automaton.specs.Held.{HasCause, IsWithin}
 use Rattle.query_automaton.specs.Steps.{steps_of_lets}
 use Rattle.query_automaton.specs.declared.effort.TheConstants.{MOST_STEPS}

@@ -1,7 +1,7 @@
 use Rattle.std.proofs.Common.{length}
 use Rattle.spanner_model.specs.ExprView.{query_of}
 use Rattle.spanner_model.specs.View.{atom_of}
-use Rattle.marked_automaton.specs.Automaton.{Marked, size}
+use Rattle.marked_automaton.specs.Automaton.{size}
 use Rattle.marked_automaton.specs.Reduct.{ReducesMarked}
 use Rattle.marked_automaton.proofs.Rearranged.{rearranged_reduces}
 use Rattle.place_automaton.specs.Words.{atom_automaton}

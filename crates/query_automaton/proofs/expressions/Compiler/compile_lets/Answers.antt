@@ -8,7 +8,7 @@ use Rattle.marked_automaton.specs.Automaton.{Marked, size}
 use Rattle.algebra.proofs.Followed.{handed_on}
 use Rattle.query_automaton.specs.BegunQuery.{BegunQuery}
 use Rattle.query_automaton.specs.Compiling.{AreCompiled}
-use Rattle.query_automaton.specs.Held.{HasCause, IsHoldFault}
+use Rattle.query_automaton.specs.Held.{HasCause}
 use Rattle.query_automaton.proofs.PieceLaws.{let_can, let_more, none_compiled}
 use Rattle.query_automaton.proofs.HeldQueries.{let_cause, let_held, let_kept, let_takes}
 use Rattle.query_automaton.proofs.StepLaws.{lets_first}

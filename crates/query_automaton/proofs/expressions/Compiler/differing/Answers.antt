@@ -1,6 +1,4 @@
 use Rattle.std.proofs.Common.{◌+◌, ◌≤◌, length, arith, ◌∙◌}
-use Rattle.marked_automaton.specs.Automaton.{Marked}
-use Rattle.marked_automaton.specs.Reduct.{ReducesMarked}
 use Rattle.marked_automaton.proofs.Reducts.{reduct_of_reduct}
 use Rattle.marked_automaton.specs.Faults.{IsSizeFaultWithin}
 use Rattle.algebra.proofs.Followed.{handed_on}

@@ -1,10 +1,6 @@
-use Rattle.std.proofs.Common.{◌≤◌, length, List, arith, ◌∙◌}
-use Rattle.spanner_model.specs.Captures.{VarName}
-use Rattle.marked_automaton.specs.Automaton.{Marked}
-use Rattle.marked_automaton.specs.Reduct.{Reduces, ReducesMarked}
+use Rattle.std.proofs.Common.{◌≤◌, length, arith, ◌∙◌}
+use Rattle.marked_automaton.specs.Reduct.{Reduces}
 use Rattle.marked_automaton.proofs.Reducts.{reduct_of_reduct}
-use Rattle.algebra.specs.JoinedMarks.{agree_on, joined}
-use Rattle.algebra.specs.Operations.{join_of}
 use Rattle.query_automaton.specs.QueryAutomaton.{of_join}
 use Rattle.query_automaton.specs.Steps.{join_steps}
 use Rattle.query_automaton.specs.Told.{IsTold}

@@ -1,9 +1,6 @@
 use Rattle.std.proofs.Common.{List, length, ap, ◌∙◌, arith}
-use Rattle.span_core.specs.NameSets.{Ascending}
 use Rattle.spanner_model.specs.Captures.{VarName}
-use Rattle.marked_automaton.specs.Automaton.{IsMarked, Marked}
-use Rattle.marked_automaton.specs.Marks.{left_of, remarked}
-use Rattle.marked_automaton.specs.Reduct.{Reduces}
+use Rattle.marked_automaton.specs.Automaton.{Marked}
 use Rattle.query_automaton.proofs.PieceLaws.{kept_all}
 use Rattle.query_automaton.proofs.expressions.Compiler.projected.Goals as goal
 

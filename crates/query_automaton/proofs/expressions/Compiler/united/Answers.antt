@@ -1,6 +1,4 @@
 use Rattle.std.proofs.Common.{◌≤◌, length, arith}
-use Rattle.marked_automaton.specs.Automaton.{Marked}
-use Rattle.marked_automaton.specs.Reduct.{ReducesMarked}
 use Rattle.algebra.proofs.Followed.{handed_on}
 use Rattle.query_automaton.specs.QueryAutomaton.{of_union}
 use Rattle.query_automaton.specs.declared.fault.CompileFault.TheVariants.{Size}
