@@ -1,7 +1,6 @@
-use Rattle.std.proofs.Common.{◌≡◌, List, Some, length, refl, sym, ap, ◌∙◌}
+use Rattle.std.proofs.Common.{◌≡◌, Some, length, refl, sym, ap, ◌∙◌}
 use Rattle.std.specs.Prelude.{slice_get}
 use Rattle.std.proofs.lemmas.Option.{slice_get_read, slice_get_within}
-use Rattle.span_core.specs.Lists.{Has}
 use Rattle.marked_automaton.proofs.Listed.{some_same}
 use Rattle.algebra_minus.specs.declared.partitions.Part.{Part}
 use Rattle.algebra_minus.proofs.PartitionLaws.{put_at, put_last}

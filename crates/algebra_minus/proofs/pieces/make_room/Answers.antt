@@ -1,6 +1,3 @@
-use Rattle.std.proofs.Common.{List}
-use Rattle.marked_automaton.specs.Automaton.{ByteClass}
-use Rattle.algebra_minus.specs.Pieces.{IsKnown}
 use Rattle.algebra_minus.proofs.KnownLaws.{known_pushed}
 use Rattle.algebra_minus.proofs.pieces.make_room.Goals as goal
 

@@ -1,8 +1,7 @@
-use Rattle.std.proofs.Common.{◌∷◌, [], ◌++◌, List, inl, inr, refl, sym, ◌∙◌}
+use Rattle.std.proofs.Common.{◌∷◌, [], ◌++◌, inl, inr, refl, sym, ◌∙◌}
 use Rattle.std.proofs.lemmas.Bool.{OnFalse_at, false≢true}
 use Rattle.span_core.proofs.HasLaws.{Has-append_left, Has-append_right}
-use Rattle.marked_automaton.specs.declared.way.Way.{Way}
-use Rattle.algebra_minus.specs.Pieces.{LeadAlike, SomeWayLeads}
+use Rattle.algebra_minus.specs.Pieces.{SomeWayLeads}
 use Rattle.algebra_minus.proofs.KnownLaws.{alike_known, alike_same}
 use Rattle.algebra_minus.proofs.pieces.put_new.Goals as goal
 

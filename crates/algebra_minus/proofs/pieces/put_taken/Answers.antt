@@ -1,8 +1,6 @@
-use Rattle.std.proofs.Common.{◌≡◌, ◌+◌, ◌∷◌, [], ◌++◌, List, length, take, sym, ap, ◌∙◌, arith, append_assoc}
+use Rattle.std.proofs.Common.{◌≡◌, ◌+◌, ◌∷◌, [], ◌++◌, length, take, sym, ap, ◌∙◌, arith, append_assoc}
 use Rattle.std.proofs.Math.Seq.{take-length}
 use Rattle.std.proofs.lemmas.List.{take_more}
-use Rattle.marked_automaton.specs.declared.way.Way.{Way}
-use Rattle.algebra_minus.specs.Pieces.{LeadAlike}
 use Rattle.algebra_minus.proofs.KnownLaws.{alike_more, alike_then}
 use Rattle.algebra_minus.proofs.pieces.put_taken.Goals as goal
 

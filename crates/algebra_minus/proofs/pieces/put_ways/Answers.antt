@@ -1,10 +1,9 @@
-use Rattle.std.proofs.Common.{◌≡◌, ◌+◌, ◌∷◌, [], ◌++◌, List, length, get_or, take, sym, ap, ◌∙◌, arith}
+use Rattle.std.proofs.Common.{◌≡◌, ◌+◌, ◌∷◌, [], ◌++◌, length, get_or, take, sym, ap, ◌∙◌, arith}
 use Rattle.std.specs.List.{flat_map}
 use Rattle.std.proofs.Math.Seq.{take-length}
 use Rattle.std.proofs.lemmas.List.{flat_map_more, take_more}
-use Rattle.marked_automaton.specs.declared.way.Way.{Way}
 use Rattle.marked_automaton.specs.Automaton.{ways_from}
-use Rattle.algebra_minus.specs.Pieces.{LeadAlike, ways_of}
+use Rattle.algebra_minus.specs.Pieces.{ways_of}
 use Rattle.algebra_minus.proofs.KnownLaws.{alike_both, alike_then}
 use Rattle.algebra_minus.proofs.pieces.put_ways.Goals as goal
 

@@ -1,10 +1,9 @@
-use Rattle.std.proofs.Common.{◌≡◌, ℕ, List, refl, arith, rules, ◌∙◌}
+use Rattle.std.proofs.Common.{◌≡◌, ℕ, refl, arith, rules, ◌∙◌}
 use Rattle.std.specs.FinSet as set
 use Rattle.std.proofs.lemmas.Fn.{always_returns_same}
 use Rattle.std.proofs.lemmas.List.{take_all}
 use Rattle.std.proofs.lemmas.List.Sorted.{IsNonDecreasingBy-from_sort_by_key}
 use Rattle.marked_automaton.specs.declared.way.Way.{Way}
-use Rattle.algebra.specs.Pairs.{HaveSameRows}
 use Rattle.algebra.proofs.Stable.{rows_stay}
 use Rattle.algebra_minus.specs.Pieces.{way_marks}
 use Rattle.algebra_minus.proofs.rows.by_marks.Goals as goal

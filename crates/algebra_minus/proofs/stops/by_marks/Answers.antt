@@ -1,9 +1,8 @@
-use Rattle.std.proofs.Common.{◌≡◌, ℕ, List, length, refl, ap, arith, rules, ◌∙◌}
+use Rattle.std.proofs.Common.{◌≡◌, ℕ, length, refl, ap, arith, rules, ◌∙◌}
 use Rattle.std.proofs.lemmas.Fn.{always_returns_same}
 use Rattle.std.proofs.lemmas.List.{take_all}
 use Rattle.std.proofs.lemmas.List.Sorted.{IsNonDecreasingBy-from_sort_by_key, length_permutation}
 use Rattle.marked_automaton.specs.declared.way.Stop.{Stop}
-use Rattle.algebra.specs.Pairs.{HaveSameRows}
 use Rattle.algebra.proofs.Stable.{rows_stay}
 use Rattle.algebra_minus.specs.Found.{stop_marks}
 use Rattle.algebra_minus.proofs.stops.by_marks.Goals as goal

@@ -1,6 +1,5 @@
 use Rattle.std.proofs.Common.{refl, sym, ◌∙◌}
 use Rattle.std.proofs.lemmas.Bool.{true≢false}
-use Rattle.span_core.specs.Lists.{Has}
 use Rattle.algebra.proofs.Alike.{Has-item}
 use Rattle.algebra_minus.specs.Found.{EndsIn}
 use Rattle.algebra_minus.proofs.Ends.{ends_more}
