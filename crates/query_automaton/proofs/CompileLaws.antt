@@ -224,7 +224,8 @@ module _ {q : QueryTree} {lets : List Marked} (known : AreCompiled q lets) where
         small = λ w i. elim i as (λ _. HasSmallAtoms w) [ inl j ↦ subst HasSmallAtoms (same ∙ j) c.small | inr j ↦ absurd j ];
       }
 
-  pub so_far_all : {o : Operation} {es : List ExprTree} {k : ℕ} {a : Marked} → IsAsked q N (all_of o es) → (2 ≤ length es → k ≡ length es) → SoFar q N o es k a → IsCompiledFrom q N (all_of o es) a
+  pub so_far_all : {o : Operation} {es : List ExprTree} {k : ℕ} {a : Marked} → IsAsked q N (all_of o es) → (2 ≤ length es → k ≡ length es) → SoFar q N o es k a →
+      IsCompiledFrom q N (all_of o es) a
   so_far_all {o} {es} {k} asked e s =
       let whole : take k es ≡ es = ap (λ n. take n es) (e (two_parts V S N o es asked.sound_expr)) ∙ take-length es in record {
         reduces = rw (← whole) s.reduces;

@@ -85,8 +85,8 @@ expression-returns-in_err-second-in-Minus-clause-fault t c =
 
 -- both sides are compiled
 sides : {t : ℕ} (c : expression-After-as_automaton-in-Minus t) →
-    AreSides c.args.self.now (expr_of c.args.expr.now) (expr_of c.deref-in-Minus.result.now) (expr_of c.deref-in-Minus-2.result.now) c.as_automaton.result.now c.as_automaton-in-Minus.result.now
-    c.args.effort.now c.expression-in-Minus.new.effort c.beside.new.effort
+    AreSides c.args.self.now (expr_of c.args.expr.now) (expr_of c.deref-in-Minus.result.now) (expr_of c.deref-in-Minus-2.result.now)
+    c.as_automaton.result.now c.as_automaton-in-Minus.result.now c.args.effort.now c.expression-in-Minus.new.effort c.beside.new.effort
 sides c =
     let e = minus_of c.in-Minus.is c.deref-in-Minus.ensures c.deref-in-Minus-2.ensures in
     let first = c.in_ok-first-in-Minus.ensures in
