@@ -1,5 +1,5 @@
 -- The lines that were served so far, and all of them.
-use Rattle.std.proofs.Common.{arith, ◌≡◌, ◌⊎◌, ◌+◌, ◌<◌, ◌≤◌, ℕ, Bool, true, false, List, [], ◌∷◌, ◌++◌, length, Option, Some, None, Ok, Err, inl, inr, refl, sym, ap}
+use Rattle.std.proofs.Common.{arith, ◌≡◌, ◌⊎◌, ◌+◌, ◌<◌, ◌≤◌, ℕ, List, [], ◌∷◌, ◌++◌, length, Option, Some, None, inl, inr, refl, sym, ap}
 use Rattle.std.proofs.Common.{◌∙◌, subst, append_assoc, append-nil, length-append}
 use Rattle.std.specs.Prelude.{codes}
 use Rattle.std.specs.Io.KnownBytes.{Appends}
@@ -7,9 +7,7 @@ use Rattle.std.proofs.KnownBytes.{Appends-nil, Appends-trans}
 use Rattle.std.proofs.lemmas.List.Concat.{flat_map-append}
 use Rattle.rm_outside.specs.Change.{Adds, Change, Failed}
 use Rattle.rm_outside.specs.Sink.{AppendsPart}
-use Rattle.rm_outside.specs.Source.{AsksLine, IsNextLong, IsSpent, LineTaken, NextLine, TakesLine, TakesLines}
-use Rattle.rm_outside.specs.declared.source.LineFault.{LineFault}
-use Rattle.rm_outside.specs.declared.source.LineFault.TheVariants.{TooLong}
+use Rattle.rm_outside.specs.Source.{IsNextLong, IsSpent, LineTaken, NextLine, TakesLine, TakesLines}
 use Rattle.rm_outside.proofs.LineLaws.{next_is}
 use Rattle.rm_outside.specs.declared.status.Status.{Status}
 use Rattle.rm_outside.specs.declared.status.Status.TheVariants as status
@@ -20,7 +18,7 @@ use Rattle.session_server.specs.declared.answering.Opened.{Opened}
 use Rattle.session_server.specs.Open.{AreOpen}
 use Rattle.session_server.specs.Replies.{AreReplies, IsReply, Reply, Sessions, first_line, no_line, replies_text, reply_text}
 use Rattle.session_server.specs.Serve.{AreShort, IsServed, Served, Serves, ServesAll, ServesLines, all_served, line_too_long, source_failed, too_many, wants_memory, write_failed}
-use Rattle.note_texts.specs.Outcomes.{Reports, cut, whole}
+use Rattle.note_texts.specs.Outcomes.{Is, IsOutOfMemory, Reports, cut, whole}
 
 -- ---- one line more
 
@@ -51,99 +49,99 @@ pub record ServedSoFar (k : Known) (most : ℕ) (start now before after : Option
   pub stands : AreOpen k cs all
   pub wrote : Appends before after (replies_text replies)
 
-pub none_served : (k : Known) (most : ℕ) (start before : Option (List ℕ)) → ServedSoFar k most start start before before 0 []
-none_served k most start before = record { texts = []; replies = []; all = []; taken = refl; count = refl; few = omega arith; replied = no_line; stands = tt; wrote = Appends-nil before }
+pub none_served : {k : Known} {most : ℕ} {start before : Option (List ℕ)} → ServedSoFar k most start start before before 0 []
+none_served {before = before} = record { texts = []; replies = []; all = []; taken = refl; count = refl; few = omega arith; replied = no_line; stands = tt; wrote = Appends-nil before }
 
-module _ (k : Known) (most : ℕ) (start now before after : Option (List ℕ)) (served : ℕ) (cs : List Opened) (s : ServedSoFar k most start now before after served cs) where
+module _ {k : Known} {most : ℕ} {start now before after : Option (List ℕ)} {served : ℕ} {cs : List Opened} (s : ServedSoFar k most start now before after served cs) where
   few_texts : length s.texts ≤ most
   few_texts = let a = s.count in let b = s.few in omega (arith, a, b)
 
   run : Served k s.texts s.replies
   run = record { after = s.all; replied = s.replied }
 
-  module _ (source out : Change) (begins : source.old.bytes ≡ start) (puts : out.old.bytes ≡ before) (written : out.new.bytes ≡ after) where
-    took : TakesLines source.old.bytes s.texts now
-    took = rw begins s.taken
+-- ---- the lines that were served are all that are served
 
-    added : Adds out (replies_text s.replies)
-    added = rw puts
-        (rw written s.wrote)
+module _ {k : Known} {most : ℕ} {source out : Change} {now : Option (List ℕ)} {served : ℕ} {cs : List Opened} {end : Status} {note : List ℕ}
+    (s : ServedSoFar k most source.old.bytes now out.old.bytes out.new.bytes served cs) where
+  pub ends_served : IsSpent now → IsSpent source.new.bytes → Is end note status.Done (codes "end") → ServesLines k most source out end note
+  ends_served spent none is = all_served s.texts s.replies now s.taken spent none (few_texts s) (run s) s.wrote is
 
-    pub ends_served : IsSpent now → IsSpent source.new.bytes → ServesLines k most source out status.Done (line (codes "end"))
-    ends_served spent end = all_served s.texts s.replies now took spent end few_texts run added (record { ends = refl; says = refl })
+  pub ends_failed : Failed source → Is end note status.Read (codes "read failed: requests") → ServesLines k most source out end note
+  ends_failed failed is = source_failed s.texts s.replies now s.taken failed (few_texts s) (run s) s.wrote is
 
-    pub ends_failed : Failed source → ServesLines k most source out status.Read (line (codes "read failed: requests"))
-    ends_failed failed = source_failed s.texts s.replies now took failed few_texts run added (record { ends = refl; says = refl })
+  pub ends_long : IsNextLong MOST_LINE_BYTES now → Is end note status.Long (number_between (codes "request longer than ") MOST_LINE_BYTES (codes " bytes")) →
+      ServesLines k most source out end note
+  ends_long long is = line_too_long s.texts s.replies now s.taken long (few_texts s) (run s) s.wrote is
 
-    pub ends_long : IsNextLong MOST_LINE_BYTES now → ServesLines k most source out status.Long (line (number_between (codes "request longer than ") MOST_LINE_BYTES (codes " bytes")))
-    ends_long long = line_too_long s.texts s.replies now took long few_texts run added (record { ends = refl; says = refl })
+  pub ends_many : (text : List ℕ) → TakesLine now text source.new.bytes → most ≤ served → Is end note status.Long (codes "too many requests") → ServesLines k most source out end note
+  ends_many text next many is = let a = s.count in let b = s.few in too_many s.texts s.replies now text s.taken next (omega (arith, a, b, many)) (run s) s.wrote is
 
-    pub ends_many : (text : List ℕ) → TakesLine now text source.new.bytes → most ≤ served → ServesLines k most source out status.Long (line (codes "too many requests"))
-    ends_many text next many = let a = s.count in let b = s.few in too_many s.texts s.replies now text took next (omega (arith, a, b, many)) run added (record { ends = refl; says = refl })
+  pub ends_memory : IsOutOfMemory end note → ServesLines k most source out end note
+  ends_memory is = wants_memory s.texts s.replies now s.taken (few_texts s) (run s) s.wrote is
 
-    pub ends_memory : ServesLines k most source out status.Memory (line (codes "out of memory"))
-    ends_memory = wants_memory s.texts s.replies now took few_texts run added (record { ends = refl; says = refl })
+-- ---- a line more
 
-  -- a reply more
-  module _ (new : Option (List ℕ)) (text reply_line : List ℕ) (reply : Reply) (all : Sessions) (one : TakesLine now text new) (room : served < most)
-      (answers : IsReply k s.all text reply all) (told : reply_line ≡ reply_text reply) where
-    more_few : length (s.texts ++ text ∷ []) ≤ most
-    more_few = let a = s.count in let e = length-append s.texts (text ∷ []) in omega (arith, a, e, room)
+-- the next line was taken, and has this reply, with the code's sessions behind it
+pub record NextReplied (k : Known) (all : Sessions) (now new : Option (List ℕ)) (told : List ℕ) (then : List Opened) : Type 0 where
+  pub text : List ℕ
+  pub reply : Reply
+  pub behind : Sessions
+  pub takes : TakesLine now text new
+  pub answers : IsReply k all text reply behind
+  pub tells : told ≡ reply_text reply
+  pub stands : AreOpen k then behind
 
-    pub one_served : (put : Option (List ℕ)) (then : List Opened) → AreOpen k then all → Appends after put reply_line → ServedSoFar k most start new before put (served + 1) then
-    one_served put then stands wrote =
-        let a = s.count in
-        let e = length-append s.texts (text ∷ []) in
-        record {
-          texts = s.texts ++ text ∷ [];
-          replies = s.replies ++ reply ∷ [];
-          all = all;
-          taken = takes_more start now new s.texts text s.taken one;
-          count = omega (arith, a, e);
-          few = omega (arith, room);
-          replied = replied_more k [] s.all all s.texts s.replies text reply s.replied answers;
-          stands = stands;
-          wrote = rw (text_more s.replies reply)
-              (Appends-trans before after put (replies_text s.replies) (reply_text reply) s.wrote (rw (← told) wrote));
-        }
+-- the line that was taken into an empty list is answered
+pub next_replied : {k : Known} {most limit served : ℕ} {start now before after new : Option (List ℕ)} {cs then : List Opened} {empty into asked told shown : List ℕ}
+    (s : ServedSoFar k most start now before after served cs) → LineTaken limit now new empty into → empty ≡ [] → asked ≡ into →
+    ((all : Sessions) → AreOpen k cs all → (r : Reply) × (after : Sessions) × IsReply k all asked r after × (told ≡ reply_text r) × AreOpen k then after) →
+    shown ≡ told → NextReplied k s.all now new shown then
+next_replied s (text, short, joined, takes) cleared is replies shows =
+    let (reply, behind, answers, tells, stands) = replies s.all s.stands in
+    let same = is ∙ joined ∙ ap (λ (xs : List ℕ). xs ++ text) cleared in
+    record { text = text; reply = reply; behind = behind; takes = takes; answers = rw (← same) answers; tells = shows ∙ tells; stands = stands }
 
-    pub ends_write : (source out : Change) → source.old.bytes ≡ start → source.new.bytes ≡ new → out.old.bytes ≡ before → AppendsPart after out.new.bytes reply_line → Failed out →
-        ServesLines k most source out status.Write (line (codes "write failed"))
-    ends_write source out begins goes puts part failed =
-        let all_text = replies_text s.replies in
-        let joined : replies_text (s.replies ++ reply ∷ []) ≡ (all_text ++ part.part) ++ part.prefix.rest =
-        text_more s.replies reply ∙ ap (λ (xs : List ℕ). all_text ++ xs) (sym told ∙ part.prefix.joined) ∙ sym (append_assoc all_text part.part part.prefix.rest) in
-        let added : Appends before out.new.bytes (all_text ++ part.part) = Appends-trans before after out.new.bytes all_text part.part s.wrote part.added in
-        write_failed (s.texts ++ text ∷ []) (s.replies ++ reply ∷ [])
-        (rw begins
-        (rw goes (takes_more start now new s.texts text s.taken one)))
-        more_few
-        (record { after = all; replied = replied_more k [] s.all all s.texts s.replies text reply s.replied answers })
-        (record {
-          part = all_text ++ part.part;
-          added = rw puts added;
-          prefix = record { rest = part.prefix.rest; joined = joined };
-        })
-        failed (record { ends = refl; says = refl })
+module _ {k : Known} {most : ℕ} {start now before after new : Option (List ℕ)} {served : ℕ} {cs then : List Opened} {told : List ℕ}
+    (s : ServedSoFar k most start now before after served cs) (n : NextReplied k s.all now new told then) (room : served < most) where
+  count_more : length (s.texts ++ n.text ∷ []) ≡ served + 1
+  count_more = let a = s.count in let e = length-append s.texts (n.text ∷ []) in omega (arith, a, e)
 
--- ---- in the code's shapes
+  taken_more : TakesLines start (s.texts ++ n.text ∷ []) new
+  taken_more = takes_more start now new s.texts n.text s.taken n.takes
 
-pub ended_as : (k : Known) (most : ℕ) (source out : Change) (end wanted : Status) (note text : List ℕ) → end ≡ wanted → note ≡ text → ServesLines k most source out wanted text →
-    ServesLines k most source out end note
-ended_as k most source out end wanted note text is says done =
-    rw is (rw says done)
+  more_replied : AreReplies k [] (s.texts ++ n.text ∷ []) (s.replies ++ n.reply ∷ []) n.behind
+  more_replied = replied_more k [] s.all n.behind s.texts s.replies n.text n.reply s.replied n.answers
 
-module _ (limit : ℕ) (old new : Option (List ℕ)) (before after : List ℕ) where
-  pub is_long : (e : LineFault) (seen : ℕ) → e ≡ TooLong seen → AsksLine limit old new before after (Err e) → IsNextLong limit old
-  is_long e seen is asks = let P : LineFault → Type 0 = λ x. AsksLine limit old new before after (Err x) in (subst P is asks).1
+  pub one_served : {put : Option (List ℕ)} → Appends after put told → ServedSoFar k most start new before put (served + 1) then
+  one_served {put} wrote = record {
+    texts = s.texts ++ n.text ∷ [];
+    replies = s.replies ++ n.reply ∷ [];
+    all = n.behind;
+    taken = taken_more;
+    count = count_more;
+    few = omega (arith, room);
+    replied = more_replied;
+    stands = n.stands;
+    wrote = rw (text_more s.replies n.reply)
+        (Appends-trans before after put (replies_text s.replies) (reply_text n.reply) s.wrote (rw (← n.tells) wrote));
+  }
 
-  pub is_spent : (b : Bool) → b ≡ false → AsksLine limit old new before after (Ok b) → IsSpent old × IsSpent new
-  is_spent true is asks = absurd (cc)
-  is_spent false is asks = (asks.0, asks.1)
-
-  pub is_taken : (b : Bool) → b ≡ true → AsksLine limit old new before after (Ok b) → LineTaken limit old new before after
-  is_taken false is asks = absurd (cc)
-  is_taken true is asks = asks
+pub ends_write : {k : Known} {most : ℕ} {source out : Change} {now after : Option (List ℕ)} {served : ℕ} {cs then : List Opened} {told : List ℕ} {end : Status} {note : List ℕ}
+    (s : ServedSoFar k most source.old.bytes now out.old.bytes after served cs) → NextReplied k s.all now source.new.bytes told then → served < most →
+    AppendsPart after out.new.bytes told → Failed out → Is end note status.Write (codes "write failed") → ServesLines k most source out end note
+ends_write {out = out} {after = after} s n room part failed is =
+    let all_text = replies_text s.replies in
+    let joined : replies_text (s.replies ++ n.reply ∷ []) ≡ (all_text ++ part.part) ++ part.prefix.rest =
+    text_more s.replies n.reply ∙ ap (λ (xs : List ℕ). all_text ++ xs) (sym n.tells ∙ part.prefix.joined) ∙ sym (append_assoc all_text part.part part.prefix.rest) in
+    let many = count_more s n room in
+    write_failed (s.texts ++ n.text ∷ []) (s.replies ++ n.reply ∷ []) (taken_more s n room) (omega (arith, many, room))
+    (record { after = n.behind; replied = more_replied s n room })
+    (record {
+      part = all_text ++ part.part;
+      added = Appends-trans out.old.bytes after out.new.bytes all_text part.part s.wrote part.added;
+      prefix = record { rest = part.prefix.rest; joined = joined };
+    })
+    failed is
 
 -- ---- all lines
 
