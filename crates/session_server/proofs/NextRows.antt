@@ -12,12 +12,11 @@ use Rattle.session_server.specs.declared.answering.Opened.{Opened}
 use Rattle.session_server.specs.declared.session.Session.{Session as CodeSession}
 use Rattle.note_texts.specs.Notes.{line, table_note}
 use Rattle.session_server.specs.declared.TheConstants.{MOST_GROWN, SESSION_TABLE}
-use Rattle.session_server.specs.declared.session.Halt.{Halt}
 use Rattle.session_server.specs.declared.session.Halt.TheVariants as halt
 use Rattle.session_server.specs.Requests.{SessionRequest, grow_request, next_request}
 use Rattle.session_server.specs.Replies.{Answers, asking, error_of, gives, given_rows, growing, grown_to, grows, heavy_grown, long, session_of, giving, json_rows}
 use Rattle.session_server.specs.Replies.{reply_text, rows_object, Session, Sessions, changed, to_come, sessions_without}
-use Rattle.session_server.specs.Standing.{GivesPage, IsGrowHalt, IsRowsHalt, IsSession}
+use Rattle.session_server.specs.Standing.{GivesPage, IsGrowHalt, IsSession}
 use Rattle.session_server.specs.Open.{AreOpen, HasNone, IsFirstPlaceOf, LosesOne, RepliesTo}
 use Rattle.session_server.proofs.Grows.{kept_of}
 use Rattle.session_server.proofs.Opens.{filtered, found_open, loses_filtered}
@@ -52,95 +51,102 @@ set_same [] p c is = absurd (cc)
 set_same (d ∷ cs) zero c is = let e : c ≡ d = cc in ap (λ (x : Opened). x ∷ cs) e
 set_same (d ∷ cs) (suc p) c is = ap (λ (xs : List Opened). d ∷ xs) (set_same cs p c is)
 
-pub loses_set : (k : Known) (cs : List Opened) (id p : ℕ) (c : Opened) → IsFirstPlaceOf cs id p → c.id ≡ id → LosesOne k cs (slice_set cs p c) id
-loses_set k cs id p c at same = λ all o. rw (filter_set cs id p c at.here same) (filtered k cs all id o)
+-- ---- the session of a number
 
-pub here_at : (cs : List Opened) (id p : ℕ) (c : Opened) → IsFirstPlaceOf cs id p → c ≡ get_or cs p c → (slice_get cs p ≡ Some c) × (c.id ≡ id)
-here_at cs id p c at is =
-    let there : slice_get cs p ≡ Some c = slice_get_read cs (length cs) p c refl at.within is in
-    (there, rw there at at.here)
+-- this is the session at the first place of the number
+pub record IsFound (cs : List Opened) (id p : ℕ) (c : Opened) : Type 0 where
+  pub at : IsFirstPlaceOf cs id p
+  pub there : slice_get cs p ≡ Some c
+  pub same : c.id ≡ id
 
-pub stands_here : (k : Known) (cs : List Opened) (all : Sessions) (id p : ℕ) (c : Opened) → AreOpen k cs all → IsFirstPlaceOf cs id p → slice_get cs p ≡ Some c →
-    (s : Session) × (session_of all id ≡ Some s) × IsSession k c.session s
-stands_here k cs all id p c o at there =
-    let (d, s, is, found, stands) = found_open k cs all id p o at.none_before at.here in
-    let same : d ≡ c = (let e = sym is ∙ there in cc) in
-    (s, found, rw (← same) stands)
+-- what is read at the first place is that session
+pub found_at : {cs seen : List Opened} {id p : ℕ} {c : Opened} → seen ≡ cs → IsFirstPlaceOf seen id p → c ≡ get_or cs p c → IsFound cs id p c
+found_at {cs = cs} {id = id} {p = p} {c = c} is first read =
+    let at : IsFirstPlaceOf cs id p = rw (← is) first in
+    let there : slice_get cs p ≡ Some c = slice_get_read cs (length cs) p c refl at.within read in
+    record { at = at; there = there; same = rw there at at.here }
 
-pub stands_at : (k : Known) (cs : List Opened) (all : Sessions) (id p : ℕ) (c : Opened) → AreOpen k cs all → IsFirstPlaceOf cs id p → slice_get cs p ≡ Some c → (s : Session) × IsSession k c.session s
-stands_at k cs all id p c o at there = let (s, found, here) = stands_here k cs all id p c o at there in (s, here)
+module _ {cs : List Opened} {id p : ℕ} {c : Opened} (found : IsFound cs id p c) where
+  pub loses_set : (k : Known) (new : CodeSession) → LosesOne k cs (slice_set cs p (record { id = c.id; session = new })) id
+  loses_set k new = λ all o. rw (filter_set cs id p (record { id = c.id; session = new }) found.at.here found.same) (filtered k cs all id o)
 
-pub replies_given : {E : Type 0} (k : Known) (r : Result (Vec ℕ Global) E) (cs : List Opened) (id p most : ℕ) (c : Opened) (new : CodeSession) (written told : List ℕ) (more : Bool) →
-    IsFirstPlaceOf cs id p → slice_get cs p ≡ Some c → c.id ≡ id → ((s : Session) → IsSession k c.session s → GivesPage k c.session new most written more s) → told ≡ written →
+  stands_here : (k : Known) (all : Sessions) → AreOpen k cs all → (s : Session) × (session_of all id ≡ Some s) × IsSession k c.session s
+  stands_here k all o =
+      let (d, s, is, finds, stands) = found_open k cs all id p o found.at.none_before found.at.here in
+      let e = found.there in
+      let same : d ≡ c = (let there = sym is ∙ e in cc) in
+      (s, finds, rw (← same) stands)
+
+pub stands_at : {cs : List Opened} {id p : ℕ} {c : Opened} → IsFound cs id p c → (k : Known) (all : Sessions) → AreOpen k cs all → (s : Session) × IsSession k c.session s
+stands_at found k all o = let (s, finds, here) = stands_here found k all o in (s, here)
+
+pub replies_given : {E : Type 0} {k : Known} (r : Result (Vec ℕ Global) E) {cs : List Opened} {id p most : ℕ} {c : Opened} {new : CodeSession} {written told : List ℕ} {more : Bool} →
+    IsFound cs id p c → ((s : Session) → IsSession k c.session s → GivesPage k c.session new most written more s) → told ≡ written →
     IfOk r (λ s. (items : Items) → told ≡ compact_text (array items) → s.items ≡ line (compact_text (rows_object id more items))) →
     IfOk r (RepliesTo k cs (slice_set cs p (record { id = c.id; session = new })) (next_request id most))
-replies_given k (Err e) cs id p most c new written told more at there same given is text = tt
-replies_given k (Ok s) cs id p most c new written told more at there same given is text = λ open_all o.
-    let (t, found, here) = stands_here k cs open_all id p c o at there in
+replies_given (Err e) found given is text = tt
+replies_given {k = k} (Ok s) {cs = cs} {id = id} {p = p} {most = most} {c = c} {new = new} found given is text = λ open_all o.
+    let (t, finds, here) = stands_here found k open_all o in
     let (all, (names, answers), g) = given t here in
     let rows = take most (to_come k t c.session.vars all) in (
       given_rows id (nat_lt most (length (to_come k t c.session.vars all))) c.session.vars rows,
       changed id (giving (length rows) (asking t)) open_all,
-      gives t c.session.vars all found names answers,
+      gives t c.session.vars all finds names answers,
       rw (← g.tells) (text (json_rows c.session.vars rows) (is ∙ g.rows)),
-      set_open k cs open_all id p (record { id = c.id; session = new }) (giving (length rows) (asking t)) o at.none_before at.here same (inl (all, g.now)),
+      set_open k cs open_all id p (record { id = c.id; session = new }) (giving (length rows) (asking t)) o found.at.none_before found.at.here found.same (inl (all, g.now)),
     )
 
 -- ---- a session that is closed since it weighs too much
 
-pub heavy_closed : {E : Type 0} (k : Known) (r : Result (Vec ℕ Global) E) (cs new : List Opened) (id p : ℕ) (c d : Opened) (request : SessionRequest) →
-    IsFirstPlaceOf cs id p → slice_get cs p ≡ Some c → d.id ≡ id → new ≡ filter (λ c. not (c.id == id)) (slice_set cs p d) →
+pub heavy_closed : {E : Type 0} (k : Known) (r : Result (Vec ℕ Global) E) {cs new : List Opened} {id p : ℕ} {c : Opened} (d : CodeSession) (request : SessionRequest) →
+    IsFound cs id p c → new ≡ filter (λ c. not (c.id == id)) (slice_set cs p (record { id = c.id; session = d })) →
     ((all : Sessions) (s : Session) → session_of all id ≡ Some s → IsSession k c.session s → Answers k all request (error_of id (table_note SESSION_TABLE)) (sessions_without id all)) →
     IfOk r (λ s. s.items ≡ reply_text (error_of id (table_note SESSION_TABLE))) → IfOk r (RepliesTo k cs new request)
-heavy_closed k (Err e) cs new id p c d request at there same is step text = tt
-heavy_closed k (Ok s) cs new id p c d request at there same is step text = λ open_all o.
-    let (t, found, here) = stands_here k cs open_all id p c o at there in (
+heavy_closed k (Err e) d request found is step text = tt
+heavy_closed k (Ok s) {cs = cs} {id = id} {p = p} {c = c} d request found is step text = λ open_all o.
+    let (t, finds, here) = stands_here found k open_all o in (
       error_of id (table_note SESSION_TABLE),
       sessions_without id open_all,
-      step open_all t found here,
+      step open_all t finds here,
       text,
-      rw (is ∙ filter_set cs id p d at.here same) (filtered k cs open_all id o),
+      rw (is ∙ filter_set cs id p (record { id = c.id; session = d }) found.at.here found.same) (filtered k cs open_all id o),
     )
 
-pub loses_closed : (k : Known) (cs new : List Opened) (id p : ℕ) (d : Opened) → IsFirstPlaceOf cs id p → d.id ≡ id → new ≡ filter (λ c. not (c.id == id)) (slice_set cs p d) → LosesOne k cs new id
-loses_closed k cs new id p d at same is = loses_filtered k cs new id (is ∙ filter_set cs id p d at.here same)
-
-pub rows_heavy : (s : Session) (h : Halt) → h ≡ halt.Heavy → IsRowsHalt s h → IsRowsHalt s halt.Heavy
-rows_heavy s h is why = subst (IsRowsHalt s) is why
-
-pub grow_heavy : (s : Session) (text : List ℕ) (h : Halt) → h ≡ halt.Heavy → IsGrowHalt s text h → IsGrowHalt s text halt.Heavy
-grow_heavy s text h is why = subst (IsGrowHalt s text) is why
+pub loses_closed : (k : Known) {cs new : List Opened} {id p : ℕ} {c : Opened} (d : CodeSession) → IsFound cs id p c →
+    new ≡ filter (λ c. not (c.id == id)) (slice_set cs p (record { id = c.id; session = d })) → LosesOne k cs new id
+loses_closed k {cs = cs} {new = new} {id = id} {p = p} {c = c} d found is =
+    loses_filtered k cs new id (is ∙ filter_set cs id p (record { id = c.id; session = d }) found.at.here found.same)
 
 -- ---- a document that grows
 
-pub replies_grown : {E : Type 0} (k : Known) (r : Result (Vec ℕ Global) E) (cs : List Opened) (id p n : ℕ) (text bytes : List ℕ) (c : Opened) (new : CodeSession) →
-    IsFirstPlaceOf cs id p → slice_get cs p ≡ Some c → c.id ≡ id → bytes ≡ text → n ≡ length c.session.growing.document + length bytes → n ≤ MOST_GROWN →
+pub replies_grown : {E : Type 0} {k : Known} (r : Result (Vec ℕ Global) E) {cs : List Opened} {id p n : ℕ} {text bytes : List ℕ} {c : Opened} {new : CodeSession} →
+    IsFound cs id p c → bytes ≡ text → n ≡ length c.session.growing.document + length bytes → n ≤ MOST_GROWN →
     ((s : Session) → IsSession k c.session s → IsSession k new (growing bytes s)) →
     IfOk r (λ s. s.items ≡ reply_text (grown_to id n)) → IfOk r (RepliesTo k cs (slice_set cs p (record { id = c.id; session = new })) (grow_request id text))
-replies_grown k (Err e) cs id p n text bytes c new at there same is sum few grew told = tt
-replies_grown k (Ok s) cs id p n text bytes c new at there same is sum few grew told = λ open_all o.
-    let (t, found, here) = stands_here k cs open_all id p c o at there in
+replies_grown (Err e) found is sum few grew told = tt
+replies_grown {k = k} (Ok s) {cs = cs} {id = id} {p = p} {n = n} {text = text} {bytes = bytes} {c = c} {new = new} found is sum few grew told = λ open_all o.
+    let (t, finds, here) = stands_here found k open_all o in
     let held : length c.session.growing.document ≡ length t.document = ap (λ (d : List ℕ). length d) (kept_of k c.session t here).growing.holds in
     let same_text : length bytes ≡ length text = ap (λ (d : List ℕ). length d) is in
     let all_bytes : n ≡ length t.document + length text = omega (arith, held, same_text, sum) in (
       grown_to id (length t.document + length text),
       changed id (growing text t) open_all,
-      grows t found (omega (arith, all_bytes, few)),
+      grows t finds (omega (arith, all_bytes, few)),
       rw (← all_bytes) told,
-      set_open k cs open_all id p (record { id = c.id; session = new }) (growing text t) o at.none_before at.here same (rw (← is) (grew t here)),
+      set_open k cs open_all id p (record { id = c.id; session = new }) (growing text t) o found.at.none_before found.at.here found.same (rw (← is) (grew t here)),
     )
 
-pub too_long : (k : Known) (cs : List Opened) (id p : ℕ) (text bytes : List ℕ) (c : Opened) → IsFirstPlaceOf cs id p → slice_get cs p ≡ Some c → bytes ≡ text →
+pub too_long : {k : Known} {cs : List Opened} {id p : ℕ} {text bytes : List ℕ} {c : Opened} → IsFound cs id p c → bytes ≡ text →
     MOST_GROWN < length c.session.growing.document + length bytes → (all : Sessions) → AreOpen k cs all → Answers k all (grow_request id text) (error_of id (codes "long")) all
-too_long k cs id p text bytes c at there is past all o =
-    let (t, found, here) = stands_here k cs all id p c o at there in
+too_long {k = k} {text = text} {bytes = bytes} {c = c} found is past all o =
+    let (t, finds, here) = stands_here found k all o in
     let held : length c.session.growing.document ≡ length t.document = ap (λ (d : List ℕ). length d) (kept_of k c.session t here).growing.holds in
     let same_text : length bytes ≡ length text = ap (λ (d : List ℕ). length d) is in
-    long t found (omega (arith, held, same_text, past))
+    long t finds (omega (arith, held, same_text, past))
 
-pub too_heavy : (k : Known) (id n : ℕ) (text bytes : List ℕ) (c : CodeSession) (all : Sessions) (s : Session) → bytes ≡ text → n ≡ length c.growing.document + length bytes → n ≤ MOST_GROWN →
+pub too_heavy : {k : Known} {id n : ℕ} {text bytes : List ℕ} (c : CodeSession) {all : Sessions} (s : Session) → bytes ≡ text → n ≡ length c.growing.document + length bytes → n ≤ MOST_GROWN →
     IsGrowHalt s bytes halt.Heavy → session_of all id ≡ Some s → IsSession k c s → Answers k all (grow_request id text) (error_of id (table_note SESSION_TABLE)) (sessions_without id all)
-too_heavy k id n text bytes c all s is sum few heavy found here =
+too_heavy {k = k} {text = text} {bytes = bytes} c s is sum few heavy finds here =
     let held : length c.growing.document ≡ length s.document = ap (λ (d : List ℕ). length d) (kept_of k c s here).growing.holds in
     let same_text : length bytes ≡ length text = ap (λ (d : List ℕ). length d) is in
-    heavy_grown s found (omega (arith, held, same_text, sum, few)) (rw (← is) heavy)
+    heavy_grown s finds (omega (arith, held, same_text, sum, few)) (rw (← is) heavy)
