@@ -130,18 +130,18 @@ loses_filtered k cs new id is = λ all o.
 -- ---- a session is opened
 
 -- one of this number is open
-pub is_taken : (k : Known) (cs : List Opened) (all : Sessions) (id p : ℕ) (text document : List ℕ) → IsFirstPlaceOf cs id p → AreOpen k cs all →
+pub is_taken : {k : Known} {cs : List Opened} {all : Sessions} {id p : ℕ} {text document : List ℕ} → IsFirstPlaceOf cs id p → AreOpen k cs all →
     Answers k all (open_request id text document) (error_of id (codes "taken")) all
-is_taken k cs all id p text document at o = let (c, s, is, found, stands) = found_open k cs all id p o at.none_before at.here in taken s found
+is_taken {k = k} {cs = cs} {all = all} {id = id} {p = p} at o = let (c, s, is, found, stands) = found_open k cs all id p o at.none_before at.here in taken s found
 
 -- so many are open
-pub is_full : (k : Known) (cs : List Opened) (all : Sessions) (id : ℕ) (text document : List ℕ) → HasNone cs id → MOST_SESSIONS ≤ length cs → AreOpen k cs all →
+pub is_full : {k : Known} (cs : List Opened) {all : Sessions} {id : ℕ} {text document : List ℕ} → HasNone cs id → MOST_SESSIONS ≤ length cs → AreOpen k cs all →
     Answers k all (open_request id text document) (error_of id (codes "full")) all
-is_full k cs all id text document none many o = let same = same_length k cs all o in full (none_open k cs all id o none) (omega (arith, same, many))
+is_full {k = k} cs {all = all} {id = id} none many o = let same = same_length k cs all o in full (none_open k cs all id o none) (omega (arith, same, many))
 
-pub is_refused : (k : Known) (cs : List Opened) (all : Sessions) (id : ℕ) (text document note t d : List ℕ) → HasNone cs id → length cs < MOST_SESSIONS → t ≡ text → d ≡ document →
+pub is_refused : {k : Known} (cs : List Opened) {all : Sessions} {id : ℕ} {text document note t d : List ℕ} → HasNone cs id → length cs < MOST_SESSIONS → t ≡ text → d ≡ document →
     IsRefused k t d note → AreOpen k cs all → Answers k all (open_request id text document) (error_of id note) all
-is_refused k cs all id text document note t d none room same held why o =
+is_refused {k = k} cs {all = all} {id = id} {note = note} none room same held why o =
     let long = same_length k cs all o in
     refused note (none_open k cs all id o none) (omega (arith, long, room))
     (rw (← same) (rw (← held) why))
@@ -179,20 +179,20 @@ loses_put k (Err e) cs new id same = rw same (loses_same k cs id)
 abbrev pub RepliesTo_line : Known → List Opened → List Opened → List ℕ → Vec ℕ Global → Type 0
 RepliesTo_line k old new text line = (all : Sessions) → AreOpen k old all → (r : Reply) × (after : Sessions) × IsReply k all text r after × (line.items ≡ reply_text r) × AreOpen k new after
 
-pub line_of_request : (k : Known) (old new : List Opened) (text : List ℕ) (request : SessionRequest) (line : Vec ℕ Global) → IsRequest text request → RepliesTo k old new request line →
+pub line_of_request : (k : Known) (old new : List Opened) {text : List ℕ} {request : SessionRequest} (line : Vec ℕ Global) → IsRequest text request → RepliesTo k old new request line →
     RepliesTo_line k old new text line
-line_of_request k old new text request line is replies = λ all o. let (r, after, answers, told, stands) = replies all o in (r, after, to_request is answers, told, stands)
+line_of_request k old new line is replies = λ all o. let (r, after, answers, told, stands) = replies all o in (r, after, to_request is answers, told, stands)
 
 pub line_of_none : {E : Type 0} (k : Known) (cs : List Opened) (text : List ℕ) (r : Result (Vec ℕ Global) E) → IsNoRequest text → IfOk r (λ s. s.items ≡ reply_text no_request) →
     IfOk r (RepliesTo_line k cs cs text)
 line_of_none k cs text (Err e) none told = tt
 line_of_none k cs text (Ok s) none told = λ all o. (no_request, all, to_no_request none, told, o)
 
-pub line_of_memory : {E : Type 0} (k : Known) (old mid new : List Opened) (text : List ℕ) (request : SessionRequest) (id : ℕ) (r : Result (Vec ℕ Global) E) → IsRequest text request →
+pub line_of_memory : {E : Type 0} (k : Known) (old mid new : List Opened) {text : List ℕ} {request : SessionRequest} {id : ℕ} (r : Result (Vec ℕ Global) E) → IsRequest text request →
     id ≡ session_id request →
     LosesOne k old mid (session_id request) → new ≡ filter (λ c. not (c.id == id)) mid → IfOk r (λ s. s.items ≡ reply_text (error_of id (codes "memory"))) → IfOk r (RepliesTo_line k old new text)
-line_of_memory k old mid new text request id (Err e) is same loses closed_now told = tt
-line_of_memory k old mid new text request id (Ok s) is same loses closed_now told = λ all o.
+line_of_memory k old mid new (Err e) is same loses closed_now told = tt
+line_of_memory k old mid new {request = request} (Ok s) is same loses closed_now told = λ all o.
     let n = session_id request in
     let now : new ≡ filter (λ c. not (c.id == n)) mid = closed_now ∙ ap (λ (m : ℕ). filter (λ (c : Opened). not (c.id == m)) mid) same in (
       error_of n (codes "memory"),
@@ -203,14 +203,14 @@ line_of_memory k old mid new text request id (Ok s) is same loses closed_now tol
     )
 
 -- the line's value is this request, or none
-pub is_request : (text : List ℕ) (d : Data) (r : SessionRequest) → IsUtf8 text → read text ≡ Some d → IsObjectOf d r → IsRequest text r
-is_request text d r utf8 reads is = record { utf8 = utf8; reads = reads ∙ ap (λ (x : Data). Some x) is.0; range = is.1 }
+pub is_request : (text : List ℕ) {d : Data} (r : SessionRequest) → IsUtf8 text × (read text ≡ Some d) → IsObjectOf d r → IsRequest text r
+is_request text r (utf8, reads) is = record { utf8 = utf8; reads = reads ∙ ap (λ (x : Data). Some x) is.0; range = is.1 }
 
 pub is_no_value : (text : List ℕ) → (IsUtf8 text → read text ≡ None) → IsNoRequest text
 is_no_value text none r is = let a = none is.utf8 in let b = is.reads in absurd (cc)
 
-pub is_no_object : (text : List ℕ) (d : Data) → read text ≡ Some d → IsNoObject d → IsNoRequest text
-is_no_object text d reads none r is = let b = is.reads in let same : d ≡ request_object r = cc in none r (same, is.range)
+pub is_no_object : (text : List ℕ) {d : Data} → IsUtf8 text × (read text ≡ Some d) → IsNoObject d → IsNoRequest text
+is_no_object text {d = d} (utf8, reads) none r is = let b = is.reads in let same : d ≡ request_object r = cc in none r (same, is.range)
 
 pub none_is : {X : Type 0} (o : Option X) (P : Type 0) → o ≡ None → IfNone o P → P
 none_is None P e h = h

@@ -19,32 +19,25 @@ returns-in-Err-Note-clause-reply g c =
     let why = why_refused k q d c.in-Err-Note.field-0 c.in-Err-Note.note c.in-Err-Note.field-0-is c.in-Err-Note.ensures.refused in
     let here : IsRefused k q d note = rw c.deref.ensures.value why in
     replies_same k c.refused.result cs (opening_of asked) (error_of asked.id note)
-    (λ all o. is_refused k cs all asked.id (string_bytes asked.query) (string_bytes asked.document) note q d c.requires.none c.requires.room
-    c.as_bytes.ensures.value (ap (λ (v : Vec ℕ Global). v.items) c.into_bytes.ensures.value) here o) c.refused.ensures
+    (λ all o. is_refused cs c.requires.none c.requires.room c.as_bytes.ensures.value (ap (λ (v : Vec ℕ Global). v.items) c.into_bytes.ensures.value) here o) c.refused.ensures
 
 pub returns-in-Err-Note-clause-memory : goal.returns-in-Err-Note-clause-memory
 returns-in-Err-Note-clause-memory g c =
-    let k = known c.args.tests.now g.J.Judge.judges in
-    let cs = c.args.sessions.now.items in
-    on_err c.refused.result _ (loses_same k cs c.args.asked.id)
+    on_err c.refused.result _ (loses_same (known c.args.tests.now g.J.Judge.judges) c.args.sessions.now.items c.args.asked.id)
 
 pub returns-clause-memory : goal.returns-clause-memory
 returns-clause-memory g c =
-    let k = known c.args.tests.now g.J.Judge.judges in
-    let cs = c.args.sessions.now.items in
-    loses_same k cs c.args.asked.id
+    loses_same (known c.args.tests.now g.J.Judge.judges) c.args.sessions.now.items c.args.asked.id
 
 pub returns-in-Ok-clause-reply : goal.returns-in-Ok-clause-reply
 returns-in-Ok-clause-reply g c =
-    let k = known c.args.tests.now g.J.Judge.judges in
     let asked = c.args.asked in
     let q = c.as_bytes.result.now in
     let d = c.into_bytes.result.items in
-    replies_put k c.put_opened.result c.args.sessions.now.items c.put_opened.new.sessions.items asked.id (string_bytes asked.query) (string_bytes asked.document) q d
-    c.in-Ok.session c.requires.none c.requires.room c.as_bytes.ensures.value (ap (λ (v : Vec ℕ Global). v.items) c.into_bytes.ensures.value)
+    replies_put (known c.args.tests.now g.J.Judge.judges) c.put_opened.result c.args.sessions.now.items c.put_opened.new.sessions.items asked.id (string_bytes asked.query)
+    (string_bytes asked.document) q d c.in-Ok.session c.requires.none c.requires.room c.as_bytes.ensures.value (ap (λ (v : Vec ℕ Global). v.items) c.into_bytes.ensures.value)
     c.put_opened.ensures.put c.in-Ok.ensures.opened c.put_opened.ensures.reply
 
 pub returns-in-Ok-clause-memory : goal.returns-in-Ok-clause-memory
 returns-in-Ok-clause-memory g c =
-    let k = known c.args.tests.now g.J.Judge.judges in
-    loses_put k c.put_opened.result c.args.sessions.now.items c.put_opened.new.sessions.items c.args.asked.id c.put_opened.ensures.same
+    loses_put (known c.args.tests.now g.J.Judge.judges) c.put_opened.result c.args.sessions.now.items c.put_opened.new.sessions.items c.args.asked.id c.put_opened.ensures.same
