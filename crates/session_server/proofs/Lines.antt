@@ -11,7 +11,7 @@ use Rattle.rm_outside.specs.Source.{IsNextLong, IsSpent, LineTaken, NextLine, Ta
 use Rattle.rm_outside.proofs.LineLaws.{next_is}
 use Rattle.rm_outside.specs.declared.status.Status.{Status}
 use Rattle.rm_outside.specs.declared.status.Status.TheVariants as status
-use Rattle.note_texts.specs.Notes.{number_between, line}
+use Rattle.note_texts.specs.Notes.{number_between}
 use Rattle.spanner_model.specs.Passing.{Known}
 use Rattle.session_server.specs.declared.TheConstants.{MOST_LINE_BYTES}
 use Rattle.session_server.specs.declared.answering.Opened.{Opened}

@@ -1,5 +1,5 @@
 -- A session that gave its next rows, among those that are open.
-use Rattle.std.proofs.Common.{arith, ◌≡◌, ◌+◌, ◌<◌, ◌≤◌, ℕ, zero, suc, Bool, true, false, List, [], ◌∷◌, length, take, filter, slice_set, get_or, Some, inl, refl, sym, ap, ◌∙◌, subst}
+use Rattle.std.proofs.Common.{arith, ◌≡◌, ◌+◌, ◌<◌, ◌≤◌, ℕ, zero, suc, Bool, true, false, List, [], ◌∷◌, length, take, filter, slice_set, get_or, Some, inl, refl, sym, ap, ◌∙◌}
 use Rattle.std.specs.Prelude.{not, ◌==◌, nat_lt, if◌then◌else◌, slice_get, Vec, Result, Ok, Err, IfOk, codes}
 use Rattle.std.specs.Option.{IsSomeAnd}
 use Rattle.std.specs.declared.alloc.Global.{Global}

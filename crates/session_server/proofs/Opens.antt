@@ -211,10 +211,3 @@ is_no_value text none r is = let a = none is.utf8 in let b = is.reads in absurd 
 
 pub is_no_object : (text : List ℕ) {d : Data} → IsUtf8 text × (read text ≡ Some d) → IsNoObject d → IsNoRequest text
 is_no_object text {d = d} (utf8, reads) none r is = let b = is.reads in let same : d ≡ request_object r = cc in none r (same, is.range)
-
-pub none_is : {X : Type 0} (o : Option X) (P : Type 0) → o ≡ None → IfNone o P → P
-none_is None P e h = h
-none_is (Some x) P e h = absurd (cc)
-
-pub some_is : {X : Type 0} (o : Option X) (x : X) (P : X → Type 0) → o ≡ Some x → IfSome o P → P x
-some_is {X} o x P e h = let Q : Option X → Type 0 = λ a. IfSome a P in subst Q e h
