@@ -1,0 +1,12 @@
+//! A document that grows, followed: what is new with each piece.
+//!
+//! Where a piece ends, the words of the sets that have an end without marks are given, and their sources are given up. So each word is
+//! given once, and nothing is kept of it.
+#![tactic(auto)]
+
+pub use settling::{keep_sources, list_sources, settle};
+pub use telling::settled_sources;
+
+pub mod laws;
+mod settling;
+mod telling;
