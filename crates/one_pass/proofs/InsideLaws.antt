@@ -53,11 +53,11 @@ module _ (A : Automaton) (states region : List ℕ) (depth : ℕ → ℕ) (text 
 -- ---- what a search tells
 
 -- the bytes that were read, the last first, are those before the place e
-record AreRead (before d : List ℕ) (e : ℕ) : Type 0 where
+pub record AreRead (before d : List ℕ) (e : ℕ) : Type 0 where
   pub count : length before ≡ e
   pub each : (i k : ℕ) → i + suc k ≡ e → get_or before i 0 ≡ get_or d k 0
 
-read_none : (d : List ℕ) → AreRead [] d 0
+pub read_none : (d : List ℕ) → AreRead [] d 0
 read_none d = record { count = refl; each = λ i k e. absurd (omega (arith, e)) }
 
 read_more : (before d : List ℕ) (e b : ℕ) → AreRead before d e → get_or d e 0 ≡ b → AreRead (b ∷ before) d (suc e)
@@ -97,7 +97,7 @@ at_drop (x ∷ d) zero b rest is = (omega arith, first is, later is)
     later is = cc
 at_drop (x ∷ d) (suc e) b rest is = let r = at_drop d e b rest is in (omega (arith, r.0), r.1, r.2)
 
-none_ends : (text d : List ℕ) → EndsNowhere text d (length d) → (rest before : List ℕ) (e : ℕ) → AreRead before d e → drop e d ≡ rest → NoneEnds text before rest
+pub none_ends : (text d : List ℕ) → EndsNowhere text d (length d) → (rest before : List ℕ) (e : ℕ) → AreRead before d e → drop e d ≡ rest → NoneEnds text before rest
 none_ends text d nowhere [] before e so is = tt
 none_ends text d nowhere (b ∷ rest) before e so is =
     let here = at_drop d e b rest is in
@@ -108,7 +108,7 @@ none_ends text d nowhere (b ∷ rest) before e so is =
       none_ends text d nowhere rest (b ∷ before) (suc e) more here.2,
     )
 
-nowhere_taken : (text d : List ℕ) (q : ℕ) → q ≤ length d → EndsNowhere text d q → EndsNowhere text (take q d) (length (take q d))
+pub nowhere_taken : (text d : List ℕ) (q : ℕ) → q ≤ length d → EndsNowhere text d q → EndsNowhere text (take q d) (length (take q d))
 nowhere_taken text d q le nowhere j fits stands =
     let long : length (take q d) ≡ q = length-take-le q d le in
     nowhere j (omega (arith, fits, long)) (λ m less. sym (get_or-take q d (j + m) 0 (omega (arith, fits, long, less))) ∙ stands m less)

@@ -11,6 +11,7 @@ pub mod Faulting
 pub mod Goings
 pub mod GraphLaws
 pub mod InsideLaws
+pub mod HomeLaws
 pub mod KnownLaws
 pub mod KnownStepLaws
 pub mod LawProofs

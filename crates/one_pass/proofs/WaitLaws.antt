@@ -23,10 +23,10 @@ use Rattle.one_pass.specs.Waiting.{Forces, IsLoop, IsLooping, IsOf, LeadsBack, W
 use Rattle.node_arena.specs.Words.{Word}
 use Rattle.output_graph.specs.Forward.{mark_block}
 
-differ : false ≡ true → ⊥
+pub differ : false ≡ true → ⊥
 differ e = cc
 
-zero_or : (m : ℕ) → (m ≡ 0) ⊎ ((m ≡ 0) → ⊥)
+pub zero_or : (m : ℕ) → (m ≡ 0) ⊎ ((m ≡ 0) → ⊥)
 zero_or m = go (nat_eq m 0) refl
   where
     go : (v : Bool) → nat_eq m 0 ≡ v → (m ≡ 0) ⊎ ((m ≡ 0) → ⊥)
@@ -61,7 +61,7 @@ module _ (A : Automaton) (set : List ℕ) (b : ℕ) (e : Reach) (h : Has (edges 
   pub edge_order : IsInOrder ◌<◌ e.to
   edge_order = subst (λ (r : Reach). IsInOrder ◌<◌ r.to) block.2 (set_in_order (map (λ (z : Way). z.to) (filter (λ (z : Way). nat_eq z.marks block.0) taken)))
 
-same_edge : (A : Automaton) (set : List ℕ) (b : ℕ) (e f : Reach) → Has (edges A set (byte_read b)) e → Has (edges A set (byte_read b)) f → e.marks ≡ f.marks → e ≡ f
+pub same_edge : (A : Automaton) (set : List ℕ) (b : ℕ) (e f : Reach) → Has (edges A set (byte_read b)) e → Has (edges A set (byte_read b)) f → e.marks ≡ f.marks → e ≡ f
 same_edge A set b e f h k same = sym (edge_is A set b e h) ∙ (ap (reach_with (ways_taken A set b)) same ∙ edge_is A set b f k)
 
 -- ---- states from which no path takes all of the bytes

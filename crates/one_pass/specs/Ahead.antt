@@ -2,17 +2,19 @@
 use Rattle.std.specs.Prelude.{◌⊎◌, ℕ, Bool, List, Option, Some, None, IsTrue}
 use Rattle.span_core.specs.Lists.{Has}
 use Rattle.marked_automaton.specs.declared.way.Way.{Way}
+use Rattle.one_pass.specs.Home.{ComesHome}
 use Rattle.one_pass.specs.Inside.{WaitsInside}
 use Rattle.one_pass.specs.Waiting.{IsLoop, IsClassWithin, Waits}
 use Rattle.one_pass.specs.declared.waiting.Exit.{Exit}
-use Rattle.one_pass.specs.declared.waiting.Exit.TheVariants.{Front, Inside}
+use Rattle.one_pass.specs.declared.waiting.Exit.TheVariants.{Front, Home, Inside}
 use Rattle.one_pass.specs.declared.waiting.Level.{Level}
 use Rattle.one_pass.specs.declared.waiting.Waiting.{Waiting}
 
--- what leaves the states takes bytes of a chain in turn; or it comes through behind a text alone
+-- what leaves the states takes bytes of a chain in turn; or it comes through behind a text alone, where they wait, or where some sets come home
 abbrev pub LeaveBy : List Way → List ℕ → Exit → Type 0
 LeaveBy ways states (Front chain) = Waits ways states chain
 LeaveBy ways states (Inside inner) = WaitsInside ways states inner
+LeaveBy ways states (Home homes) = ComesHome ways homes.sets.items homes.text
 
 -- what is known of states is true of these ways, where there are any
 abbrev pub KnowsWaiting : List Way → Option Waiting → Type 0

@@ -292,7 +292,8 @@ impl Pass {
         };
         self.graph.is_graph();
         let is_new = self.known.layers.len() > layers;
-        self.search.quiet = if is_new && waits(table, &self.graph) {
+        self.search.fresh = is_new && waits(table, &self.graph);
+        self.search.quiet = if self.search.fresh {
             QUIET
         } else {
             let at = self.at as usize;

@@ -16,7 +16,7 @@ ghost use Rattle.one_pass.specs.Places.{bytes_at, gap_at};
 
 use crate::known::Known;
 use crate::search::{FAR, QUIET, Search, bytes_over};
-use crate::waiting::is_known;
+use crate::waiting::{LONG, is_known};
 use output_graph::OutputGraph;
 use set_table::{Table, TableFault};
 use span_core::{OutOfMemory, Steps};
@@ -173,10 +173,20 @@ impl Pass {
         let (_, rest) = piece.split_at(i);
         let at = self.at as usize;
         let over = bytes_over(table, &self.graph, &mut self.search, at, rest);
-        let waits = is_known(&self.search.ahead.waiting, table, &self.graph);
+        let known = is_known(&self.search.ahead.waiting, table, &self.graph);
+        let again = self.search.later > 0 && self.search.far == layer;
+        let later = !known && self.search.ahead.refused && (self.search.fresh || again);
         self.search.quiet = 0;
-        self.search.waits = waits;
-        self.search.far = if waits || over >= FAR { layer } else { None };
+        self.search.fresh = false;
+        if known || later || !self.search.waits || self.search.far == layer {
+            self.search.waits = known || later;
+            self.search.far = if known || later || over >= FAR {
+                layer
+            } else {
+                None
+            };
+            self.search.later = if later { at.saturating_add(LONG) } else { 0 };
+        }
         self.at += over as u32;
         i + over
     }

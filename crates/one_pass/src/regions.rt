@@ -3,7 +3,7 @@
 //!
 //! A chain is a run of states, each of which but the last is entered from the one before alone, and each on one byte alone.
 //! The region has the states that are reached without the last way of the chain.
-use crate::inside::{is_only, kills_of};
+use crate::inside::{homes_of, is_only, kills_of};
 use crate::waiting::{has, is_loop, put};
 use marked_automaton::Way;
 use span_core::ByteSet;
@@ -45,8 +45,8 @@ pub(crate) struct Region {
     pub(crate) text: Vec<u8>,
 }
 
-/// The region with the longest chain, if there is one with bytes that kill.
-pub(crate) fn propose(alloc: Global, ways: &[Way], states: &[u32]) -> Option<Region> {
+/// The region with the longest chain, if there is one with bytes that kill, or that bring the states home, if so told.
+pub(crate) fn propose(alloc: Global, ways: &[Way], states: &[u32], home: bool) -> Option<Region> {
     let reached = match reached_from(alloc, ways, states) {
         Some(reached) => reached,
         None => return None,
@@ -62,7 +62,7 @@ pub(crate) fn propose(alloc: Global, ways: &[Way], states: &[u32]) -> Option<Reg
             };
             note(&mut seen, chain.as_slice());
             if chain.len() >= most {
-                if let Some(region) = region_of(alloc, ways, states, chain.as_slice()) {
+                if let Some(region) = region_of(alloc, ways, states, chain.as_slice(), home) {
                     most = chain.len() + 1;
                     best = Some(region);
                 }
@@ -191,8 +191,14 @@ fn one_byte(set: &ByteSet) -> Option<u8> {
     None
 }
 
-/// The region of a chain, if it has few states and there are bytes that kill.
-fn region_of(alloc: Global, ways: &[Way], states: &[u32], chain: &[Step]) -> Option<Region> {
+/// The region of a chain, if it has few states and there are bytes that kill, or that bring the states home.
+fn region_of(
+    alloc: Global,
+    ways: &[Way],
+    states: &[u32],
+    chain: &[Step],
+    home: bool,
+) -> Option<Region> {
     let mut members = Vec::new(alloc);
     for way in ways {
         if has(states, way.from) && !is_loop(way) && !put_member(&mut members, chain, way.to) {
@@ -201,7 +207,12 @@ fn region_of(alloc: Global, ways: &[Way], states: &[u32], chain: &[Step]) -> Opt
     }
     for k in 0..MOST_STATES {
         if k >= members.len() {
-            if kills_of(ways, states, members.as_slice()).is_empty() {
+            let ends = if home {
+                homes_of(ways, states, members.as_slice())
+            } else {
+                kills_of(ways, states, members.as_slice())
+            };
+            if ends.is_empty() {
                 return None;
             }
             return with_text(alloc, members, chain);

@@ -28,8 +28,12 @@ pub(crate) struct Search {
     pub(crate) quiet: u32,
     /// The layer that is searched as soon as it comes back: in which the last search went far, or which waits.
     pub(crate) far: Option<usize>,
-    /// Whether that layer waits, and it is known how it is left.
+    /// Whether that layer waits, and it is known how it is left, or there were too few bytes to work it out.
     pub(crate) waits: bool,
+    /// Up to where that layer is not searched at once, since there were too few bytes.
+    pub(crate) later: usize,
+    /// Whether the layer is new, and may wait.
+    pub(crate) fresh: bool,
 }
 
 impl Search {
@@ -43,6 +47,8 @@ impl Search {
             quiet: QUIET,
             far: None,
             waits: false,
+            later: 0,
+            fresh: false,
         }
     }
 
@@ -75,9 +81,9 @@ impl Search {
     }
 
     /// For how many bytes the layer that is searched at once counts as unchanged where it comes back: for none, if no search
-    /// is made at this position, since searching gained nothing.
+    /// is made at this position, since searching gained nothing, or there were too few bytes.
     fn quiet_back(&self, at: usize) -> u32 {
-        if self.waits && self.ahead.is_paused(at) {
+        if self.waits && (at < self.later || self.ahead.is_paused(at)) {
             0
         } else {
             BACK

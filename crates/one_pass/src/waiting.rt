@@ -12,9 +12,10 @@ ghost use Rattle.output_graph.specs.Graph.{Source, sources};
 ghost use Rattle.numbered_lists.specs.Numbered.{set_at};
 ghost use Rattle.one_pass.specs.Ahead.{HasAdded, KnowsWaiting, LeaveBy};
 ghost use Rattle.one_pass.specs.Passes.{AllLeadBack, AreGiven};
+ghost use Rattle.one_pass.specs.Home.{ComesHome, HasAll, IsAmong};
 ghost use Rattle.one_pass.specs.Waiting.{Forces, IsLevel, IsLoop, IsLooping, IsOf};
 
-use crate::inside::inside_of;
+use crate::inside::{home_of, inside_of};
 use byte_runs::{Chain, InnerText};
 use marked_automaton::Way;
 use output_graph::OutputGraph;
@@ -26,7 +27,7 @@ use std::alloc::{AllocError, Global};
 const SHORT: usize = 128;
 
 /// Nor are fewer than these, where the chain must first be worked out.
-const LONG: usize = 1024;
+pub(crate) const LONG: usize = 1024;
 
 /// A search costs as much as reading so many bytes, about.
 const COST: usize = 128;
@@ -84,6 +85,15 @@ pub(crate) enum Exit {
     Front(Chain),
     /// Behind a text alone.
     Inside(InnerText),
+    /// Behind a text alone, and a boundary brings each set of the layer home.
+    Home(Homes),
+}
+
+/// Sets of states that some bytes bring home, and the text behind which alone they are left.
+#[derive(Drop)]
+pub(crate) struct Homes {
+    pub(crate) sets: Vec<Vec<u32>>,
+    pub(crate) text: InnerText,
 }
 
 /// States that wait, and how they are left.
@@ -106,6 +116,8 @@ pub(crate) struct Ahead {
     credit: usize,
     /// Up to where no search is made.
     paused: usize,
+    /// Whether there were too few bytes to work out how the last layer is left.
+    pub(crate) refused: bool,
 }
 
 impl Ahead {
@@ -120,6 +132,7 @@ impl Ahead {
             window: FIRST_WINDOW,
             credit: FIRST_CREDIT,
             paused: 0,
+            refused: false,
         }
     }
 
@@ -139,7 +152,8 @@ impl Ahead {
         ensures within { result ≤ length bytes.now }
         ensures back { AllLeadBack table.now graph.now (take result bytes.now) }
     {
-        if !are_long(&self.waiting, table, graph, bytes) {
+        self.refused = !are_long(&self.waiting, table, graph, at, bytes);
+        if self.refused {
             return 0;
         }
         self.work_out(table, graph, at.saturating_add(bytes.len()));
@@ -173,6 +187,7 @@ impl Ahead {
             .saturating_mul(LOOKS)
             .saturating_add(self.spent);
         if spent > bytes / SHARE {
+            self.refused = true;
             return;
         }
         self.spent = spent;
@@ -236,11 +251,18 @@ fn passed_from(waiting: &Waiting, table: &Table<'_>, graph: &OutputGraph, bytes:
     match &waiting.exit {
         Exit::Front(chain) => chain.next_place(bytes),
         Exit::Inside(text) => text.next_place(bytes),
+        Exit::Home(homes) => {
+            if are_among(homes.sets.as_slice(), table, graph) {
+                homes.text.next_place(bytes)
+            } else {
+                0
+            }
+        }
     }
 }
 
-/// Whether the layer waits: it has few sets of few states, and each of these loops on every byte. Where there are many ways it
-/// is not looked at.
+/// Whether the layer may wait: it has few sets of few states, and each of these loops on every byte, or is entered from one that
+/// does. Where there are many ways it is not looked at.
 pub(crate) fn waits(table: &Table<'_>, graph: &OutputGraph) -> bool
     requires given { AreGiven table.now graph.now }
     requires fresh { graph.now.stepped ≡ 0 }
@@ -251,22 +273,53 @@ pub(crate) fn waits(table: &Table<'_>, graph: &OutputGraph) -> bool
     }
     for k in 0..graph.layer_len() {
         let states = table.members(graph.set_at(k));
-        if states.len() > FEW_STATES || !all_loop(ways, states) {
+        if states.len() > FEW_STATES || !are_home(ways, states) {
             return false;
         }
     }
     true
 }
 
-/// Whether there are enough bytes for a search.
-fn are_long(waiting: &Option<Waiting>, table: &Table<'_>, graph: &OutputGraph, bytes: &[u8]) -> bool
+/// Whether each of the states loops on every byte, or is entered from one that does, without marks.
+fn are_home(ways: &[Way], states: &[u32]) -> bool {
+    for state in states {
+        if !loops(ways, *state) && !is_entered(ways, states, *state) {
+            return false;
+        }
+    }
+    true
+}
+
+/// Whether a way without marks leads to the state from one of the states that loops on every byte.
+fn is_entered(ways: &[Way], states: &[u32], state: u32) -> bool {
+    for way in ways {
+        if way.to == state
+            && way.from != state
+            && way.marks.is_none()
+            && has(states, way.from)
+            && loops(ways, way.from)
+        {
+            return true;
+        }
+    }
+    false
+}
+
+/// Whether there are enough bytes for a search, with those that were read, where the chain must first be worked out.
+fn are_long(
+    waiting: &Option<Waiting>,
+    table: &Table<'_>,
+    graph: &OutputGraph,
+    at: usize,
+    bytes: &[u8],
+) -> bool
     requires given { AreGiven table.now graph.now }
     requires fresh { graph.now.stepped ≡ 0 }
 {
-    if bytes.len() >= LONG {
-        return true;
+    if bytes.len() < SHORT {
+        return false;
     }
-    bytes.len() >= SHORT && is_known(waiting, table, graph)
+    at.saturating_add(bytes.len()) >= LONG || is_known(waiting, table, graph)
 }
 
 /// Whether the layer's states are among those of which something is known.
@@ -275,9 +328,69 @@ pub(crate) fn is_known(waiting: &Option<Waiting>, table: &Table<'_>, graph: &Out
     requires fresh { graph.now.stepped ≡ 0 }
 {
     match waiting {
-        Some(waiting) => is_layer_of(waiting.states.as_slice(), table, graph),
+        Some(waiting) => is_searched(waiting, table, graph),
         None => false,
     }
+}
+
+/// As `is_known`, where something is known.
+fn is_searched(waiting: &Waiting, table: &Table<'_>, graph: &OutputGraph) -> bool
+    requires given { AreGiven table.now graph.now }
+    requires fresh { graph.now.stepped ≡ 0 }
+{
+    if !is_layer_of(waiting.states.as_slice(), table, graph) {
+        return false;
+    }
+    match &waiting.exit {
+        Exit::Front(_) => true,
+        Exit::Inside(_) => true,
+        Exit::Home(homes) => are_among(homes.sets.as_slice(), table, graph),
+    }
+}
+
+/// Whether each set of the layer is one of these.
+fn are_among(sets: &[Vec<u32>], table: &Table<'_>, graph: &OutputGraph) -> bool
+    requires given { AreGiven table.now graph.now }
+    requires fresh { graph.now.stepped ≡ 0 }
+    ensures { IsTrue result → (x : Source) → Has (sources graph.now) x → IsAmong sets.now (set_at table.now.sets x.set) }
+{
+    for k in 0..graph.layer_len() {
+        if !is_among(sets, table.members(graph.set_at(k))) {
+            return false;
+        }
+    }
+    true
+}
+
+/// Whether a set is one of these.
+fn is_among(sets: &[Vec<u32>], set: &[u32]) -> bool
+    ensures { IsTrue result → IsAmong sets.now set.now }
+{
+    for one in sets {
+        if is_same(one.as_slice(), set) {
+            return true;
+        }
+    }
+    false
+}
+
+/// Whether a set has a member, and has these states and no others.
+fn is_same(states: &[u32], set: &[u32]) -> bool
+    ensures { IsTrue result → IsOf states.now set.now × HasAll states.now set.now }
+{
+    is_of(states, set) && has_all(set, states)
+}
+
+/// Whether a set has all of these states.
+fn has_all(set: &[u32], states: &[u32]) -> bool
+    ensures { IsTrue result → HasAll states.now set.now }
+{
+    for state in states {
+        if !has(set, *state) {
+            return false;
+        }
+    }
+    true
 }
 
 /// Whether each set of the layer has a member, and all of them are among these states.
@@ -321,7 +434,7 @@ pub(crate) fn has(states: &[u32], state: u32) -> bool
     false
 }
 
-/// The states of the layer and how they are left, if all of them wait and it can be searched for.
+/// The states of the layer and how they are left, if it can be searched for: all of them wait, or the layer comes home.
 fn waiting_of(alloc: Global, table: &Table<'_>, graph: &OutputGraph) -> Option<Waiting>
     requires given { AreGiven table.now graph.now }
     requires fresh { graph.now.stepped ≡ 0 }
@@ -332,12 +445,56 @@ fn waiting_of(alloc: Global, table: &Table<'_>, graph: &OutputGraph) -> Option<W
         None => return None,
     };
     if !all_loop(table.ways(), states.as_slice()) {
-        return None;
+        if !waits(table, graph) {
+            return None;
+        }
+        return match homes_in(alloc, table, graph, states.as_slice()) {
+            Some(homes) => Some(Waiting {
+                states,
+                exit: Exit::Home(homes),
+            }),
+            None => None,
+        };
     }
     match exit_of(alloc, table.ways(), states.as_slice()) {
         Some(exit) => Some(Waiting { states, exit }),
         None => None,
     }
+}
+
+/// The sets of the layer, which have these states, and the text behind which they are left, if some bytes bring each of them home.
+fn homes_in(alloc: Global, table: &Table<'_>, graph: &OutputGraph, states: &[u32]) -> Option<Homes>
+    requires given { AreGiven table.now graph.now }
+    requires fresh { graph.now.stepped ≡ 0 }
+    ensures { IfSome result (λ h. ComesHome table.now.graph.ways h.sets.items h.text) }
+{
+    let sets = match sets_of(alloc, table, graph) {
+        Some(sets) => sets,
+        None => return None,
+    };
+    match home_of(alloc, table.ways(), states, sets.as_slice()) {
+        Some(text) => Some(Homes { sets, text }),
+        None => None,
+    }
+}
+
+/// The sets of the layer.
+fn sets_of(alloc: Global, table: &Table<'_>, graph: &OutputGraph) -> Option<Vec<Vec<u32>>>
+    requires given { AreGiven table.now graph.now }
+    requires fresh { graph.now.stepped ≡ 0 }
+{
+    let mut sets = Vec::new(alloc);
+    for k in 0..graph.layer_len() {
+        let set = match copied(alloc, table.members(graph.set_at(k))) {
+            Some(set) => set,
+            None => return None,
+        };
+        match sets.push(set) {
+            Ok(()) => {}
+            Err(_) => return None,
+        }
+    }
+    Some(sets)
 }
 
 /// How these states are left, each of which loops on each byte, if it can be searched for: by a text inside rather than by a
@@ -450,7 +607,7 @@ fn all_loop(ways: &[Way], states: &[u32]) -> bool
 }
 
 /// Whether the state has a way to itself, without marks, on each byte.
-fn loops(ways: &[Way], state: u32) -> bool
+pub(crate) fn loops(ways: &[Way], state: u32) -> bool
     ensures { IsTrue result → IsLooping ways.now state }
 {
     for way in ways {
