@@ -4,8 +4,9 @@ use Rattle.span_core.specs.Lists.{Has}
 use Rattle.marked_automaton.specs.Automaton.{Automaton, size}
 use Rattle.automaton_reading.specs.Reading.{ended, look_ups_asked}
 use Rattle.node_arena.specs.Words.{Word}
-use Rattle.output_graph.specs.Graph.{sources}
+use Rattle.output_graph.specs.Graph.{Graph, HasWord, sources, targets}
 use Rattle.output_graph.specs.Listed.{Lists}
+use Rattle.output_graph.specs.Loop.{AreListed}
 use Rattle.output_graph.specs.Rows.{rows}
 use Rattle.set_table.specs.Laid.{IsStateOf, taken_up}
 use Rattle.set_table.specs.Tabled.{IsTabled, Tabled, fresh}
@@ -17,7 +18,7 @@ use Rattle.one_pass.specs.Builds.{IsStarted}
 use Rattle.one_pass.specs.Faults.{IsFaultAt, IsFaultOf}
 use Rattle.one_pass.specs.Going.{GoesOn}
 use Rattle.one_pass.specs.Known.{Knows}
-use Rattle.one_pass.specs.Passes.{HasGrown, HasRead, HasStopped, IsReadyAt, Progress, Reaches, pass, sets_of, stop}
+use Rattle.one_pass.specs.Passes.{HasEnded, HasGrown, HasRead, HasStopped, HasStoppedAt, IsReadyAt, Progress, Reaches, pass, sets_of, stop}
 use Rattle.one_pass.specs.Places.{Leads, ReadingPlace, edges_read, end_at}
 use Rattle.one_pass.specs.SoFar.{SoFar}
 
@@ -77,6 +78,23 @@ AreEnded A n P lists =
 -- it was not ended, by the weight of the end look-ups of the layer
 abbrev pub IsEndFault : Progress → TableFault → Type 0
 IsEndFault P e = IsFaultOf P.table [] (look_ups_asked P.table.graph (sets_of P) (ended ∷ [])) e
+
+-- ---- the end
+
+-- its sources were ended where it stands, and the graph was turned
+pub record IsEndedThere (r : SoFar) (n : ℕ) (lists : Lists) (m : ℕ) : Type 0 where
+  pub table : Tabled
+  pub graph : Graph
+  pub after : ℕ
+  pub ended : HasEnded r.table.graph r.at (come_to r n) (pass table graph after)
+  pub listed : AreListed (λ w. HasWord (targets graph) 0 w) (length graph.cells) lists.store lists.first
+  pub turned : m ≤ after + 2 * length graph.cells + 2
+
+-- or it was given up there
+pub record IsGivenUpAtEnd (r : SoFar) (n m : ℕ) (e : TableFault) : Type 0 where
+  pub table : Tabled
+  pub stopped : HasStoppedAt r.table.graph (end_at r.at) (come_to r n) (stop table m)
+  pub cause : IsEndFault (come_to r n) e
 
 -- ---- what is laid down
 

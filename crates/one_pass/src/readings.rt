@@ -1,12 +1,12 @@
 //! A reading of a document as one value: a table, and the pass that goes on with it.
 //!
 //! A caller keeps it between the pieces that come; laid down, it stands beside its automaton.
-ghost use Rattle.std.specs.Prelude.{◌≡◌, ℕ, ◌+◌, ◌^◌, ◌<◌, ◌≤◌, length, IfErr, IfOk, OnOk};
+ghost use Rattle.std.specs.Prelude.{◌≡◌, ℕ, ◌+◌, ◌^◌, ◌<◌, ◌≤◌, length, IfErr, IfOk, OnErr, OnOk};
 ghost use Rattle.set_table.specs.Tabled.{IsRefusal, fresh};
 ghost use Rattle.one_pass.specs.Known.{Knows};
 ghost use Rattle.one_pass.specs.Passes.{IsReadyAt, pass};
 ghost use Rattle.one_pass.specs.Places.{bytes_at, gap_at};
-ghost use Rattle.one_pass.specs.Readings.{AreEnded, HasBegun, HasEndedCopy, HasListed, HasReadOn, IsEndFault, IsLaidOf, IsGivenUpAt, come_to, resumed};
+ghost use Rattle.one_pass.specs.Readings.{AreEnded, HasBegun, HasEndedCopy, HasListed, HasReadOn, IsEndFault, IsEndedThere, IsLaidOf, IsGivenUpAt, IsGivenUpAtEnd, come_to, resumed};
 
 use crate::known::Known;
 use crate::pass::Pass;
@@ -67,6 +67,7 @@ impl<'a> Reading<'a> {
         ensures begun { IfOk result (λ r. HasBegun automaton.now.graph limit (steps.old + 1) r steps.new) }
         ensures steps { OnOk result (steps.new ≡ steps.old + 2) }
         ensures refused { IfErr result (IsRefusal (fresh automaton.now.graph limit)) }
+        ensures stopped { OnErr result (steps.new ≡ steps.old + 1) }
     {
         let table = match Table::new(alloc, automaton, limit, steps) {
             Ok(table) => table,
@@ -138,6 +139,23 @@ impl<'a> Reading<'a> {
     {
         let at = self.pass.at;
         lists_of(alloc, &mut self.table, &self.pass.graph, at, steps)
+    }
+
+    /// The lists of the rows of the document, which ends where the reading stands: as `rows_so_far`, of the graph itself.
+    ///
+    /// With g cells and l sets in the layer, e edges of its ends, and r look-ups that the table makes first, it takes at most
+    /// 3(g + l) + 5e + 2 + r * size steps. `TableFault::Full` comes only where what the table holds and the end look-ups of the
+    /// layer weigh more than its limit.
+    pub fn list<L: Ledger>(self, steps: &mut Steps<L>) -> Result<RowLists, TableFault>
+        ensures ended { IfOk result (λ lists. IsEndedThere self.entry steps.old lists steps.new) }
+        ensures refused { IfErr result (IsGivenUpAtEnd self.entry steps.old steps.new) }
+    {
+        let Reading { mut table, pass } = self;
+        let ended = match pass.end(&mut table, steps) {
+            Ok(ended) => ended,
+            Err(fault) => return Err(fault),
+        };
+        Ok(ended.turn(steps))
     }
 
     /// What is known of whole layers.
