@@ -19,6 +19,7 @@ pub use source::{LineFault, Source};
 pub use status::Status;
 pub use stream_sink::{NoteSink, OutSink};
 pub use streams::{Counting, Reads, Takes};
+pub use taker::Taker;
 
 mod file_shelf;
 mod line_input;
@@ -34,3 +35,4 @@ mod source;
 mod status;
 mod stream_sink;
 mod streams;
+mod taker;
