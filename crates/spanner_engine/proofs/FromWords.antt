@@ -25,7 +25,7 @@ use Rattle.spanner_engine.specs.Laws.{CostsNoMore, ReadsAnswers}
 use Rattle.spanner_engine.proofs.Costs.{reduct_costs}
 use Rattle.spanner_engine.proofs.RowLaws.{rows_are_answers, words_are_of_rows}
 
-bytes_of : (d : List ℕ) → ((i : ℕ) → Fits w8 (slice_index_or d i 0)) → AreBytes d
+pub bytes_of : (d : List ℕ) → ((i : ℕ) → Fits w8 (slice_index_or d i 0)) → AreBytes d
 bytes_of d fits i b e = let f = fits i in rw (← get_or_from_slice_get d i b 0 e) (omega (arith, f))
 
 -- ---- in the shapes of the code

@@ -16,3 +16,4 @@ pub mod CacheLaws
 pub mod Deciding
 pub mod PassDeciding
 pub mod ReadPositions
+pub mod CameWhole

@@ -9,3 +9,5 @@ pub mod Left
 pub mod Fitting
 pub mod Trying
 pub mod Caching
+pub mod Coming
+pub mod Stages

@@ -7,6 +7,7 @@
 pub use answers::Answers;
 pub use beginning::{BeginFault, Options, begin, begin_by, begin_with};
 pub use cache::Cache;
+pub use coming::{Going, Stage, read_on};
 pub use query_automaton::{Compiled, compile};
 pub use rows::TestedRows;
 pub use tested::{advance_tested, next_tested};
@@ -14,6 +15,7 @@ pub use tested::{advance_tested, next_tested};
 mod answers;
 mod beginning;
 mod cache;
+mod coming;
 mod differences;
 pub mod laws;
 mod place;
