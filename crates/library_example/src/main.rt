@@ -70,16 +70,28 @@ fn ask_all<L: Ledger>(rt: &HostRuntime, blank: Blank) -> Result<(), Fault>
     ask_each(rt, &query, &mut steps)
 }
 
-/// Asks the query of each line, with what a cache keeps of the lines before.
+/// Asks the query of each line. The cache is dropped here alone: what has to be proved grows with each exit that drops it.
 fn ask_each<L: Ledger>(
     rt: &HostRuntime,
     query: &Prepared<ProgramJudge>,
     steps: &mut Steps<L>,
 ) -> Result<(), Fault> {
     let mut cache = Cache::new(rt.alloc(), MOST_KEPT);
+    ask_lines(rt, query, &mut cache, steps)
+}
+
+/// Asks the query of each line, with what a cache keeps of the lines before.
+fn ask_lines<L: Ledger>(
+    rt: &HostRuntime,
+    query: &Prepared<ProgramJudge>,
+    cache: &mut Cache,
+    steps: &mut Steps<L>,
+) -> Result<(), Fault>
+    requires { IsCacheOf query.now.graph cache.old }
+{
     for line in LINES {
         println!(rt; "{line}")?;
-        ask(rt, query, &mut cache, line.as_bytes(), steps)?;
+        ask(rt, query, cache, line.as_bytes(), steps)?;
     }
     Ok(())
 }
