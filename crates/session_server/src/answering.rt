@@ -141,13 +141,22 @@ fn put_opened(
 {
     let reply = match opened(alloc, id, session.vars()) {
         Ok(reply) => reply,
-        Err(OutOfMemory) => return Err(OutOfMemory),
+        Err(OutOfMemory) => {
+            give_up(Opened { id, session });
+            return Err(OutOfMemory);
+        }
     };
     match sessions.push(Opened { id, session }) {
         Ok(()) => Ok(reply),
-        Err(_) => Err(OutOfMemory),
+        Err(full) => {
+            give_up(full.value);
+            Err(OutOfMemory)
+        }
     }
 }
+
+/// Drops a session, here alone: what a caller has to prove grows with each of its many fields.
+fn give_up(_opened: Opened) {}
 
 fn refused(alloc: Global, id: u32, note: &[u8]) -> Result<Vec<u8>, OutOfMemory>
     requires { IsUtf8 note.now }

@@ -396,13 +396,20 @@ fn read_by<L: Ledger>(
         Err(fault) => return Err(halt_of(fault)),
     };
     if let Err(fault) = growing.append_vec(document, steps) {
+        give_up(growing);
         return Err(halt_of(fault));
     }
     match growing.rows(steps) {
         Ok(rows) => Ok((growing, Answers::over(rows))),
-        Err(fault) => Err(halt_of(fault)),
+        Err(fault) => {
+            give_up(growing);
+            Err(halt_of(fault))
+        }
     }
 }
+
+/// Drops a document with its reading, here alone: what a caller has to prove grows with each of its many fields.
+fn give_up(_growing: Growing) {}
 
 /// A refusal of a session's document, which is read on as long as it may be, and has less than 2^28 bytes.
 fn halt_of(fault: GrowFault) -> Halt
