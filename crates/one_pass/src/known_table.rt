@@ -18,7 +18,7 @@ ghost use Rattle.one_pass.specs.Readings.{IsKeptOf};
 ghost use Rattle.one_pass.specs.Weights.{WeighsWithin};
 
 use crate::known::{Known, MOST_WORDS};
-use crate::pass::Pass;
+use crate::pass::{Pass, give_up, give_up_table};
 use crate::places::EndedPass;
 use marked_automaton::Automaton;
 use output_graph::RowLists;
@@ -123,14 +123,21 @@ impl<'a> KnownTable<'a> {
         } = self;
         let mut pass = match Pass::begin_with(alloc, known, &table, steps) {
             Ok(pass) => pass,
-            Err(OutOfMemory) => return Err(TableFault::OutOfMemory),
+            Err(OutOfMemory) => {
+                give_up_table(table);
+                return Err(TableFault::OutOfMemory);
+            }
         };
         if let Err(fault) = pass.read_parts(&mut table, doc, positions.parts(), steps) {
+            give_up(table, pass);
             return Err(fault);
         }
         let EndedPass { graph, known } = match pass.end_with(&mut table, steps) {
             Ok(ended) => ended,
-            Err(fault) => return Err(fault),
+            Err(fault) => {
+                give_up_table(table);
+                return Err(fault);
+            }
         };
         Ok(Listed {
             lists: graph.turn(steps),

@@ -11,7 +11,7 @@ ghost use Rattle.one_pass.specs.Passes.{HasEnded, HasRead, HasStopped, HasStoppe
 ghost use Rattle.one_pass.specs.Places.{bytes_at, end_at};
 
 use crate::known::{Known, MOST_WORDS};
-use crate::pass::Pass;
+use crate::pass::{Pass, give_up_pass};
 use crate::search::Search;
 use output_graph::OutputGraph;
 use set_table::{Table, TableFault};
@@ -53,6 +53,7 @@ pub fn advance<L: Ledger>(
         at,
     };
     if let Err(fault) = pass.read(table, piece, steps) {
+        give_up_pass(pass);
         return Err(fault);
     }
     Ok(pass.graph)

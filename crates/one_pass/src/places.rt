@@ -17,6 +17,7 @@ ghost use Rattle.one_pass.specs.Turned.{HasNotTurned, HasTurned, HasTurnedEnd, r
 
 use crate::known::Known;
 use crate::pass::Pass;
+use crate::search::Search;
 use output_graph::OutputGraph;
 use set_table::{Table, TableFault};
 use span_core::{ByteSet, Edge, Marks, OutOfMemory, Steps};
@@ -112,12 +113,14 @@ impl Pass {
         let Pass {
             mut graph,
             known,
-            search: _,
+            search,
             at,
         } = self;
+        give_up_search(search);
         for k in 0..graph.layer_len() {
             let set = graph.set_at(k);
             if let Err(fault) = turn_end(table, &mut graph, (k, set), at, steps) {
+                give_up_ended(EndedPass { graph, known });
                 return Err(fault);
             }
         }
@@ -131,6 +134,12 @@ pub(crate) struct EndedPass {
     pub(crate) graph: OutputGraph,
     pub(crate) known: Known,
 }
+
+/// Drops what was searched for.
+fn give_up_search(_search: Search) {}
+
+/// Drops what a pass leaves.
+fn give_up_ended(_ended: EndedPass) {}
 
 /// Asks the set of a source, of which the place in the layer and the set are told, for its edges on a byte, and steps the
 /// source by them.

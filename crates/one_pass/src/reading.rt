@@ -12,7 +12,7 @@ ghost use Rattle.one_pass.specs.Seen.{accepted_words};
 ghost use Rattle.one_pass.specs.Weights.{WeighsWithin};
 
 use crate::known::MOST_WORDS;
-use crate::pass::Pass;
+use crate::pass::{Pass, give_up_pass};
 use output_graph::OutputGraph;
 use set_table::{Table, TableFault};
 use span_core::{OutOfMemory, Steps, Touched};
@@ -53,6 +53,7 @@ pub fn read<L: Ledger>(
         Err(OutOfMemory) => return Err(TableFault::OutOfMemory),
     };
     if let Err(fault) = pass.read_parts(table, doc, positions.parts(), steps) {
+        give_up_pass(pass);
         return Err(fault);
     }
     pass.end(table, steps)

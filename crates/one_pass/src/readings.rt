@@ -9,7 +9,7 @@ ghost use Rattle.one_pass.specs.Places.{bytes_at, gap_at};
 ghost use Rattle.one_pass.specs.Readings.{AreEnded, HasBegun, HasEndedCopy, HasListed, HasReadOn, IsEndFault, IsEndedThere, IsLaidOf, IsGivenUpAt, IsGivenUpAtEnd, come_to, resumed};
 
 use crate::known::Known;
-use crate::pass::Pass;
+use crate::pass::{Pass, give_up, give_up_table};
 use crate::pieces::finish;
 use marked_automaton::Automaton;
 use output_graph::{OutputGraph, RowLists};
@@ -75,7 +75,10 @@ impl<'a> Reading<'a> {
         };
         match Pass::begin(alloc, words, &table, steps) {
             Ok(pass) => Ok(Reading { table, pass }),
-            Err(OutOfMemory) => Err(TableFault::OutOfMemory),
+            Err(OutOfMemory) => {
+                give_up_table(table);
+                Err(TableFault::OutOfMemory)
+            }
         }
     }
 
@@ -100,6 +103,7 @@ impl<'a> Reading<'a> {
             mut pass,
         } = self;
         if let Err(fault) = pass.read(&mut table, piece, steps) {
+            give_up(table, pass);
             return Err(fault);
         }
         Ok(Reading { table, pass })
@@ -118,6 +122,7 @@ impl<'a> Reading<'a> {
             mut pass,
         } = self;
         if let Err(fault) = pass.skip(&mut table, to, steps) {
+            give_up(table, pass);
             return Err(fault);
         }
         Ok(Reading { table, pass })
