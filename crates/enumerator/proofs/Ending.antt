@@ -68,6 +68,14 @@ module _ (v m k at : ℕ) (P : Positions) (l : k < v) where
       put_other P (closing_bit v k) at (opening_bit v k) other ∙ starts (P (opening_bit v k)) (P (closing_bit v k)) (nat_le (P (opening_bit v k)) (P (closing_bit v k))) refl s w.1.1 ∙ sym start in
       given v m ended k w.0 w.1.0 ∙ span_between_is b (ended (opening_bit v k)) (ended (closing_bit v k)) from (put_own P (closing_bit v k) at ∙ sym end)
 
+  pub span_ended_any : (s : Span) → span_of v m P k ≡ Some s → span_of v m ended k ≡ span_between s.start at
+  span_ended_any s was =
+      let w = was_given (has m (opening_bit v k)) (has m (closing_bit v k)) (P (opening_bit v k)) (P (closing_bit v k)) s was in
+      let other : opening_bit v k ≡ closing_bit v k → ⊥ = λ e. omega (arith, e) in
+      let from : ended (opening_bit v k) ≡ s.start =
+      put_other P (closing_bit v k) at (opening_bit v k) other ∙ starts (P (opening_bit v k)) (P (closing_bit v k)) (nat_le (P (opening_bit v k)) (P (closing_bit v k))) refl s w.1.1 in
+      given v m ended k w.0 w.1.0 ∙ ap₂ span_between from (put_own P (closing_bit v k) at)
+
   -- the others
   span_stays : (j : ℕ) → j < v → (j ≡ k → ⊥) → span_of v m ended j ≡ span_of v m P j
   span_stays j lj ne =
@@ -76,19 +84,19 @@ module _ (v m k at : ℕ) (P : Positions) (l : k < v) where
       ap₂ (λ x y. if has m (opening_bit v j) && has m (closing_bit v j) then span_between x y else None)
       (put_other P (closing_bit v k) at (opening_bit v j) a) (put_other P (closing_bit v k) at (closing_bit v j) b)
 
-  pub row_ended : (row : SpanRow) (b : Span) → row ≡ row_of v m P → span_of v m ended k ≡ Some b → set row k (Some b) ≡ row_of v m ended
-  row_ended row b is new =
+  pub row_ended : (row : SpanRow) (x : Option Span) → row ≡ row_of v m P → span_of v m ended k ≡ x → set row k x ≡ row_of v m ended
+  row_ended row x is new =
       let long : length row ≡ v = ap length is ∙ length-map-range_with_len (span_of v m P) 0 v in
       let same : length (row_of v m ended) ≡ v = length-map-range_with_len (span_of v m ended) 0 v in
-      ext_get_or None (set row k (Some b)) (row_of v m ended) (length-set row k (Some b) ∙ long ∙ sym same) (λ j lt.
-      let lj : j < v = omega (arith, lt, long, length-set row k (Some b)) in
+      ext_get_or None (set row k x) (row_of v m ended) (length-set row k x ∙ long ∙ sym same) (λ j lt.
+      let lj : j < v = omega (arith, lt, long, length-set row k x) in
       let there : get_or (row_of v m ended) j None ≡ span_of v m ended j = get_or-map-range_with_len (span_of v m ended) 0 v j j None lj (omega arith) in
-      elim (cases_eq j k) as (λ _. get_or (set row k (Some b)) j None ≡ get_or (row_of v m ended) j None) [
+      elim (cases_eq j k) as (λ _. get_or (set row k x) j None ≡ get_or (row_of v m ended) j None) [
         | inl e ↦
-            ap (λ i. get_or (set row k (Some b)) i None) e ∙ get_or-set_same row k (Some b) None (omega (arith, l, long))
+            ap (λ i. get_or (set row k x) i None) e ∙ get_or-set_same row k x None (omega (arith, l, long))
             ∙ sym new ∙ ap (span_of v m ended) (sym e) ∙ sym there
         | inr ne ↦
-            get_or-set_other row k j (Some b) None ne ∙ ap (λ (r : SpanRow). get_or r j None) is
+            get_or-set_other row k j x None ne ∙ ap (λ (r : SpanRow). get_or r j None) is
             ∙ get_or-map-range_with_len (span_of v m P) 0 v j j None lj (omega arith) ∙ sym (span_stays j lj ne) ∙ sym there
       ])
 
@@ -119,5 +127,5 @@ ends_row v m h at marks positions spans s b l few long is row x some start end =
     let was = span_there v m k at P lk (take v spans) s row there in
     let now = span_ended v m k at P lk s b was start end in (
       puts,
-      take-set-lt v spans k (Some b) lk ∙ row_ended v m k at P lk (take v spans) b row now ∙ ap (row_of v m) same,
+      take-set-lt v spans k (Some b) lk ∙ row_ended v m k at P lk (take v spans) (Some b) row now ∙ ap (row_of v m) same,
     )

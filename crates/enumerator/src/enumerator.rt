@@ -4,8 +4,11 @@ ghost use Rattle.std.specs.Bool.{OnTrue, OnFalse};
 ghost use Rattle.span_core.specs.Lists.{Has};
 ghost use Rattle.node_arena.specs.Words.{Word};
 ghost use Rattle.node_arena.specs.Rows.{rows};
+ghost use Rattle.std.specs.Prelude.{take, ◌++◌};
+ghost use Rattle.enumerator.specs.Ends.{AreEnds, last_of, rows_to};
 ghost use Rattle.enumerator.specs.Enumeration.{AreInBlockOrder, AreRowsOf, IsRestAfter, IsWordOfRow};
 
+use crate::ends::{EndRun, MOST_ENDS, next_ends};
 use crate::positions::{MOST_MARKERS, ReadRow, read_spans, row_of};
 use crate::seeking::seek_row;
 use crate::stack::Stack;
@@ -118,6 +121,36 @@ impl Enumerator {
             self.variables,
             &mut self.current,
             &mut self.stack,
+            steps,
+        )
+    }
+
+    /// Goes on along the rows that stand next and differ from the row that it stands at in the end of one span alone, at most so
+    /// many of them, as many as wait beside one another. Their ends are written in order. It takes no memory, and a step for
+    /// each, and two.
+    pub fn advance_ends<L: Ledger>(
+        &mut self,
+        ends: &mut [u32; MOST_ENDS],
+        most: usize,
+        steps: &mut Steps<L>,
+    ) -> EndRun
+        requires { most ≤ 16 }
+        ensures variables { self.new.variables ≡ self.old.variables }
+        ensures cells { self.new.cells ≡ self.old.cells }
+        ensures whole { self.new.whole ≡ self.old.whole }
+        ensures count { result.count ≤ most }
+        ensures ends { AreEnds self.old.row result.place (take result.count ends.new) }
+        ensures next { self.old.rest ≡ rows_to self.old.row result.place (take result.count ends.new) ++ self.new.rest }
+        ensures row { self.new.row ≡ last_of self.old.row (rows_to self.old.row result.place (take result.count ends.new)) }
+        ensures steps { steps.new ≤ steps.old + (result.count + 2) }
+    {
+        next_ends(
+            &self.lists,
+            self.variables,
+            &mut self.current,
+            &mut self.stack,
+            ends,
+            most,
             steps,
         )
     }

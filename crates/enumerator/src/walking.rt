@@ -75,7 +75,7 @@ pub(crate) fn next_row<L: Ledger>(
 
 /// Whether the entry is the empty row alone.
 #[inline(always)]
-fn is_done(entry: Entry) -> bool
+pub(crate) fn is_done(entry: Entry) -> bool
     ensures { OnTrue result (entry ≡ Done) }
 {
     match entry {

@@ -21,3 +21,4 @@ pub mod PassingJoins
 pub mod PassingPages
 pub mod TakingLaws
 pub mod Answered
+pub mod RemainingLaws

@@ -23,7 +23,7 @@ module _ {X : Type 0} where
 pub found : (xs : List (Option Span)) (k : ℕ) (s : Span) (d : Option Span) → k < length xs → get_or xs k d ≡ Some s → slice_get xs k ≡ Some (Some s)
 found xs k s d l is = slice_get-get_or xs k d l ∙ ap Some is
 
-read_at : (xs ys : List (Option Span)) (i : ℕ) → slice_get xs i ≡ slice_get ys i → get_or xs i None ≡ get_or ys i None
+pub read_at : (xs ys : List (Option Span)) (i : ℕ) → slice_get xs i ≡ slice_get ys i → get_or xs i None ≡ get_or ys i None
 read_at xs ys i e = sym (unwrap_or-slice_get xs i None) ∙ ap (λ (o : Option (Option Span)). unwrap_or o None) e ∙ unwrap_or-slice_get ys i None
 
 -- a row that is the same at all places but one

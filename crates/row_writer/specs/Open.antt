@@ -52,3 +52,11 @@ pub record IsBeside (last row : List (Option Span)) (k : ℕ) (b : Span) : Type 
 pub record IsRun (line : Line) (last : List (Option Span)) (place : ℕ) (open_line : Option Open) : Type 0 where
   pub lengths : length last ≡ length line.heads
   pub opened : IfSome open_line (λ o. IsOpenAt line last place [] o)
+
+-- the line of the last row that is open at this place is, with another end, that of the row too: they are the same elsewhere, and the spans start alike
+pub record IsAlike (last row : List (Option Span)) (open_place k : ℕ) (b : Span) : Type 0 where
+  pub same_place : open_place ≡ k
+  pub before : Span
+  pub was : slice_get last k ≡ Some (Some before)
+  pub start : b.start ≡ before.start
+  pub others : (x : Option Span) → set row k x ≡ set last k x

@@ -1,6 +1,7 @@
 //! The lines of one row after another, of which what stays the same is not written anew.
-ghost use Rattle.std.specs.Prelude.{◌≡◌, ℕ, ◌+◌, ◌^◌, ◌<◌, ◌≤◌, ◌++◌, take, length, slice_get, IsTrue, IfOk, Some, true, false};
-ghost use Rattle.std.specs.List.{list_all};
+ghost use Rattle.std.specs.Prelude.{◌≡◌, ℕ, ◌+◌, ◌*◌, ◌^◌, ◌<◌, ◌≤◌, ◌++◌, take, length, slice_get, IsTrue, IfOk, MatchOption, Some, true, false};
+ghost use Rattle.std.specs.List.{flat_map, list_all};
+ghost use Rattle.enumerator.specs.Ends.{AreFrom, row_to};
 ghost use Rattle.cell_text.specs.Cells.{ends_by};
 ghost use Rattle.row_writer.specs.Kept.{heads_of, json_kept, kept_text, line_room, line_with, quote_room, spans_kept, table_kept};
 ghost use Rattle.row_writer.specs.declared.field.TheConstants.{FIELD_BYTES};
@@ -9,7 +10,7 @@ ghost use Rattle.span_core.specs.declared.TheConstants.{MOST_VARIABLES};
 use crate::cells::put_fields;
 use crate::field::{FIELD_BYTES, Field};
 use crate::parted::{open_line, put_parted};
-use crate::run::{Beside, Run, find_beside};
+use crate::run::{Beside, Run, find_beside, is_open_for};
 use crate::style::{Style, put_empty, put_line_end};
 use span_core::{MOST_VARIABLES, OutOfMemory, Span, VarSet};
 use std::alloc::Global;
@@ -162,6 +163,65 @@ impl KeptLine {
             }
         }
         self.put_first(spans, beside, doc, buffer, at)
+    }
+
+    /// Writes the lines of a row without texts with each of these ends of its span at a place, one behind another, and says where
+    /// they end; None where no line can be kept open there, and then what stands before the position is as it was.
+    pub fn put_ends(
+        &mut self,
+        spans: &[Option<Span>],
+        place: usize,
+        span: Span,
+        ends: &[u32],
+        doc: &[u8],
+        buffer: &mut [u8],
+        at: usize,
+    ) -> Option<usize>
+        requires lengths { length spans.now ≡ length self.old.heads }
+        requires span { slice_get spans.now place ≡ Some (Some span) }
+        requires from { AreFrom span.start ends.now }
+        requires inside { IsTrue (list_all (ends_by (length doc.now)) spans.now) }
+        requires room { at + line_room false self.old.heads spans.now ≤ length buffer.old }
+        requires rooms { at + 128 * length ends.now ≤ length buffer.old }
+        ensures line { self.new ≡ self.old }
+        ensures end { MatchOption result (take at buffer.new ≡ take at buffer.old) (λ e. e ≤ at + 122 * length ends.now) }
+        ensures text { MatchOption result (take at buffer.new ≡ take at buffer.old) (λ e. take e buffer.new
+            ≡ take at buffer.old ++ flat_map (λ end. kept_text self.old (row_to spans.now place end) doc.now false) ends.now) }
+    {
+        let beside = Beside { place, span };
+        if let Some(end) = self.put_open(spans, beside, ends, doc, buffer, at) {
+            return Some(end);
+        }
+        let _end = self.put_first(spans, beside, doc, buffer, at);
+        self.put_open(spans, beside, ends, doc, buffer, at)
+    }
+
+    /// Writes the lines of a row with each of these ends if its line is open there; None if it is not, and then nothing is written.
+    fn put_open(
+        &self,
+        spans: &[Option<Span>],
+        beside: Beside,
+        ends: &[u32],
+        doc: &[u8],
+        buffer: &mut [u8],
+        at: usize,
+    ) -> Option<usize>
+        requires lengths { length spans.now ≡ length self.now.heads }
+        requires span { slice_get spans.now beside.place ≡ Some (Some beside.span) }
+        requires from { AreFrom beside.span.start ends.now }
+        requires rooms { at + 128 * length ends.now ≤ length buffer.old }
+        ensures end { MatchOption result (buffer.new ≡ buffer.old) (λ e. e ≤ at + 122 * length ends.now) }
+        ensures text { MatchOption result (buffer.new ≡ buffer.old) (λ e. take e buffer.new
+            ≡ take at buffer.old ++ flat_map (λ end. kept_text self.now (row_to spans.now beside.place end) doc.now false) ends.now) }
+    {
+        let _doc = doc;
+        if !is_open_for(self.run.last.as_slice(), self.run.place, spans, beside) {
+            return None;
+        }
+        let Some(line) = &self.run.line else {
+            return None;
+        };
+        Some(line.put_all(ends, buffer, at))
     }
 
     /// Writes the line of a row that is not beside the last one.

@@ -2,7 +2,8 @@
 //!
 //! Where rows differ in the end of one span alone, the bytes before that number and behind it stay. They are kept once, and a
 //! line is then two copies of a fixed length, and the digits of a number.
-ghost use Rattle.std.specs.Prelude.{◌≡◌, ◌+◌, ◌≤◌, ◌++◌, take, length, IfSome};
+ghost use Rattle.std.specs.Prelude.{◌≡◌, ◌+◌, ◌*◌, ◌≤◌, ◌++◌, take, length, IfSome};
+ghost use Rattle.std.specs.List.{flat_map};
 ghost use Rattle.row_writer.specs.Open.{open_text, open_with};
 
 use cell_text::{put_bytes, put_number};
@@ -65,5 +66,18 @@ impl OpenLine {
         let end = put_number(number, buffer, at + self.front_len);
         let _back = put_bytes(&self.back, buffer, end);
         end + self.back_len
+    }
+
+    /// Writes the line with each of these numbers, one behind another, from a position on, and says where they end.
+    pub fn put_all(&self, numbers: &[u32], buffer: &mut [u8], at: usize) -> usize
+        requires { at + 128 * length numbers.now ≤ length buffer.old }
+        ensures end { result ≤ at + 122 * length numbers.now }
+        ensures text { take result buffer.new ≡ take at buffer.old ++ flat_map (open_text self.now) numbers.now }
+    {
+        let mut end = at;
+        for number in numbers {
+            end = self.put(*number, buffer, end);
+        }
+        end
     }
 }

@@ -1,7 +1,7 @@
 //! Rows that differ from the one before in the end of one span.
-ghost use Rattle.std.specs.Prelude.{◌≡◌, ℕ, ◌<◌, ◌≤◌, length, slice_get, IfSome};
+ghost use Rattle.std.specs.Prelude.{◌≡◌, ℕ, ◌<◌, ◌≤◌, length, slice_get, IfSome, Some};
 ghost use Rattle.std.specs.Bool.{OnTrue};
-ghost use Rattle.row_writer.specs.Open.{IsBeside};
+ghost use Rattle.row_writer.specs.Open.{IsAlike, IsBeside};
 
 use crate::open::OpenLine;
 use span_core::Span;
@@ -42,6 +42,34 @@ pub(crate) fn find_beside(last: &[Option<Span>], spans: &[Option<Span>]) -> Opti
         return None;
     }
     Some(Beside { place, span })
+}
+
+/// Whether the line that is open, if one is, is that of a row at the end of its span at this place.
+#[inline(always)]
+pub(crate) fn is_open_for(
+    last: &[Option<Span>],
+    open_place: usize,
+    spans: &[Option<Span>],
+    beside: Beside,
+) -> bool
+    requires lengths { length spans.now ≡ length last.now }
+    requires span { slice_get spans.now beside.place ≡ Some (Some beside.span) }
+    ensures { OnTrue result (IsAlike last.now spans.now open_place beside.place beside.span) }
+{
+    let place = beside.place;
+    if open_place != place || place >= spans.len() {
+        return false;
+    }
+    if alike(last, spans) < place || !are_same_behind(last, spans, place) {
+        return false;
+    }
+    let Some(before) = last[place] else {
+        return false;
+    };
+    if before.start != beside.span.start {
+        return false;
+    }
+    true
 }
 
 /// How many spans of two rows are the same before one differs.

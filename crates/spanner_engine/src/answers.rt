@@ -1,8 +1,9 @@
 //! Answers to come.
-ghost use Rattle.std.specs.Prelude.{◌≡◌, ◌+◌, ◌*◌, ◌≤◌, [], ◌∷◌, MatchOption};
+ghost use Rattle.std.specs.Prelude.{◌≡◌, ◌+◌, ◌*◌, ◌≤◌, ◌++◌, [], ◌∷◌, take, MatchOption};
 ghost use Rattle.std.specs.Bool.{OnTrue, OnFalse};
+ghost use Rattle.enumerator.specs.Ends.{AreEnds, last_of, rows_to};
 
-use enumerator::Enumerator;
+use enumerator::{EndRun, Enumerator, MOST_ENDS};
 use span_core::{Row, Span, Steps};
 use std::marker::Model;
 use std::sync::ledger::Ledger;
@@ -47,6 +48,25 @@ impl Answers {
         ensures steps { steps.new ≤ steps.old + 2 * self.old.variables }
     {
         self.rows.advance(steps)
+    }
+
+    /// Goes on along the answers that stand next and differ from the one that was gone to in the end of one span alone, at most
+    /// so many of them. Their ends are written in order. It takes no memory, and a step for each, and two.
+    pub fn advance_ends<L: Ledger>(
+        &mut self,
+        ends: &mut [u32; MOST_ENDS],
+        most: usize,
+        steps: &mut Steps<L>,
+    ) -> EndRun
+        requires { most ≤ 16 }
+        ensures variables { self.new.variables ≡ self.old.variables }
+        ensures count { result.count ≤ most }
+        ensures ends { AreEnds self.old.row result.place (take result.count ends.new) }
+        ensures next { self.old.rest ≡ rows_to self.old.row result.place (take result.count ends.new) ++ self.new.rest }
+        ensures row { self.new.row ≡ last_of self.old.row (rows_to self.old.row result.place (take result.count ends.new)) }
+        ensures steps { steps.new ≤ steps.old + (result.count + 2) }
+    {
+        self.rows.advance_ends(ends, most, steps)
     }
 
     /// The spans of the answer that was gone to, in the order of the variables; None where one is absent.

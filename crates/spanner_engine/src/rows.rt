@@ -1,7 +1,8 @@
 //! The answers of a query for which its tests hold, one by one.
-ghost use Rattle.std.specs.Prelude.{◌≡◌, ℕ, ◌+◌, ◌-◌, ◌^◌, ◌≤◌, [], ◌∷◌, length, MatchOption, IfSome, is_some};
+ghost use Rattle.std.specs.Prelude.{◌≡◌, ℕ, ◌+◌, ◌-◌, ◌^◌, ◌≤◌, ◌++◌, [], ◌∷◌, length, take, MatchOption, IfSome, is_some};
 ghost use Rattle.std.specs.Bool.{OnTrue, OnFalse};
 ghost use Rattle.std.proofs.Props.{props};
+ghost use Rattle.enumerator.specs.Ends.{AreEnds, last_of, rows_to};
 ghost use Rattle.span_core.specs.NameSets.{Ascending};
 ghost use Rattle.spanner_model.specs.ExprView.{query_of};
 ghost use Rattle.spanner_model.specs.Answers.{AreResultNames};
@@ -12,6 +13,7 @@ ghost use Rattle.spanner_engine.specs.Trying.{trying_steps};
 
 use crate::Answers;
 use crate::tested::advance_tested;
+use enumerator::{EndRun, MOST_ENDS};
 use span_core::{Row, Span, Steps, VarSet};
 use span_tests::{Judge, Tests};
 use spanner_model::Tested;
@@ -90,6 +92,38 @@ impl<'r, J: Judge> TestedRows<'r, J> {
             self.document,
             steps,
         )
+    }
+
+    /// Goes on along the rows that stand next and differ from the one that was gone to in the end of one span alone, at most so
+    /// many of them, and none where there are tests. Their ends are written in order. It takes no memory, and a step for each,
+    /// and two.
+    pub fn advance_ends<L: Ledger>(
+        &mut self,
+        ends: &mut [u32; MOST_ENDS],
+        most: usize,
+        steps: &mut Steps<L>,
+    ) -> EndRun
+        requires { most ≤ 16 }
+        ensures same { self.new.answers.ghost_name ≡ self.old.answers.ghost_name }
+        ensures source { (left_in self.new).source ≡ (left_in self.old).source }
+        ensures variables { self.new.answers.now.variables ≡ self.old.answers.now.variables }
+        ensures count { result.count ≤ most }
+        ensures ends { AreEnds (left_in self.old).row result.place (take result.count ends.new) }
+        ensures next { passing_over J.judges (left_in self.old).source (left_in self.old).rest
+            ≡ rows_to (left_in self.old).row result.place (take result.count ends.new)
+            ++ passing_over J.judges (left_in self.old).source (left_in self.new).rest }
+        ensures fits { AllFit (length (left_in self.old).source.names) (length (left_in self.old).source.document)
+            (rows_to (left_in self.old).row result.place (take result.count ends.new)) }
+        ensures row { (left_in self.new).row
+            ≡ last_of (left_in self.old).row (rows_to (left_in self.old).row result.place (take result.count ends.new)) }
+        ensures left { (left_in self.old).rest
+            ≡ rows_to (left_in self.old).row result.place (take result.count ends.new) ++ (left_in self.new).rest }
+        ensures steps { steps.new ≤ steps.old + (result.count + 2) }
+    {
+        if self.tested.asked.len() > 0 {
+            return EndRun { place: 0, count: 0 };
+        }
+        self.answers.advance_ends(ends, most, steps)
     }
 
     /// The spans of the row that was gone to, in the order of the variables; None where one is absent.
