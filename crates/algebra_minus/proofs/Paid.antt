@@ -51,13 +51,6 @@ paid_then A B before middle after old ways first second most within =
     sum : (o w m : ℕ) → before + o ≤ middle + w → middle + w ≤ after + m → before + o ≤ after + m
     sum o w m one two = omega (arith, one, two)
 
-pub paid_more : (B : Automaton) (before middle after : ℕ) (old ways new : List Way) → IsPaid B before old middle ways → IsPaid B middle ways after new → IsPaid B before old after new
-paid_more B before middle after old ways new first second =
-    sum (length old * partition_steps B) (length ways * partition_steps B) (length new * partition_steps B) first second
-  where
-    sum : (o w m : ℕ) → before + o ≤ middle + w → middle + w ≤ after + m → before + o ≤ after + m
-    sum o w m one two = omega (arith, one, two)
-
 pub paid_same : (B : Automaton) (before : ℕ) (ways : List Way) → IsPaid B before ways before ways
 paid_same B before ways = omega arith
 

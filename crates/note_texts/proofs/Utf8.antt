@@ -5,7 +5,7 @@ use Rattle.std.proofs.lemmas.Str.{IsUtf8-append, IsUtf8-from_ascii}
 use Rattle.std.proofs.lemmas.Fmt.{IsAscii-decimal}
 use Rattle.std.specs.Fmt.{decimal}
 use Rattle.span_core.specs.Names.{is_name}
-use Rattle.row_writer.proofs.Ascii.{name_utf8}
+use Rattle.span_core.proofs.NameTexts.{name_utf8}
 use Rattle.note_texts.specs.Notes.{about, at_place}
 
 pub number_utf8 : (what : List ℕ) (n : ℕ) → IsUtf8 what → n < 2 ^ 64 → IsUtf8 (at_place what n)

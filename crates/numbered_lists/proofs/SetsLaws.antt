@@ -8,7 +8,7 @@ use Rattle.std.proofs.lemmas.Option.{slice_get-get_or}
 use Rattle.automaton_reading.proofs.MeasureLaws.{bytes_itself}
 use Rattle.indexmap.specs.IndexSet.{insert_key}
 use Rattle.span_core.specs.Lists.{AreDistinct, Has}
-use Rattle.span_core.proofs.HasLaws.{Has-append_cases, Has-append_left, Has-get_or, Has-map_cases}
+use Rattle.span_core.proofs.HasLaws.{Has-append_cases, Has-get_or, Has-map_cases}
 use Rattle.span_core.proofs.ListLaws.{all_has}
 use Rattle.numbered_lists.specs.Numbered.{IsLongerBy, set_at, with_set, with_sets}
 
@@ -65,13 +65,6 @@ has_with_sets sets (x ∷ more) s h = elim (has_with_sets (with_set sets x) more
   ]
   | inr k ↦ inr (inr k)
 ]
-
-pub with_sets_stay : (sets more : List (List ℕ)) (s : List ℕ) → Has sets s → Has (with_sets sets more) s
-with_sets_stay sets [] s h = h
-with_sets_stay sets (x ∷ more) s h = with_sets_stay (with_set sets x) more s (elim (with_set_cases sets x) as (λ _. Has (with_set sets x) s) [
-  | inl e ↦ rw e h
-  | inr e ↦ rw e (Has-append_left sets (x ∷ []) s h)
-])
 
 -- ---- sets that are apart
 

@@ -40,9 +40,6 @@ pub own_layer : (t : Tabled) (g : Graph) (known : Known) (k : Option ℕ) → St
 own_layer t g known None stands = refl
 own_layer t g known (Some k) stands = own_names (layer_at known.layers k) g (layer_is known.layers k (sets_of g.layer) stands)
 
-pub own_pass : (t : Tabled) (p : Pass) (k : Option ℕ) → Stands t p.graph p.known k → as_layer k p ≡ p
-own_pass t p k stands = ap (λ g. let q : Pass = record { graph = g; known = p.known; search = p.search; at = p.at } in q) (own_layer t p.graph p.known k stands)
-
 pub stands_in : (t : Tabled) (g : Graph) (known : Known) (k : Option ℕ) → AreDistinct (sets_of g.layer) → Stands t g known k → StandsIn t g known k
 stands_in t g known None distinct stands = stands
 stands_in t g known (Some k) distinct stands =

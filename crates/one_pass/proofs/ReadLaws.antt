@@ -1,5 +1,5 @@
 -- What the parts of a whole pass give.
-use Rattle.std.proofs.Common.{◌≡◌, ℕ, ◌+◌, ◌*◌, ◌≤◌, Bool, false, List, [], ◌∷◌, ◌++◌, length, sym, ap, subst, arith, ◌∙◌, refl, IfErr, IfOk, Result, Ok, Err}
+use Rattle.std.proofs.Common.{◌≡◌, ℕ, ◌+◌, ◌*◌, ◌≤◌, Bool, false, List, [], ◌∷◌, ◌++◌, length, sym, ap, subst, arith, ◌∙◌, refl}
 use Rattle.std.proofs.lemmas.List.{append-nil, append_assoc}
 use Rattle.marked_automaton.specs.Automaton.{Automaton}
 use Rattle.std.specs.Prelude.{◌↔◌}
@@ -145,8 +145,3 @@ pub words_listed : (A : Automaton) (K : ℕ → Bool) (d : List ℕ) (g : Graph)
 words_listed A K d g ws exact read u =
     let same = accepted_listed g ws exact u in
     (λ h. (read u).0 (same.0 h), λ h. same.1 ((read u).1 h))
-
--- what holds of a value and of an error
-pub either_way : {T E X : Type 0} (r : Result T E) → IfOk r (λ _. X) → IfErr r (λ _. X) → X
-either_way (Ok x) ok err = ok
-either_way (Err e) ok err = err

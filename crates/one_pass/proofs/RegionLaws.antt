@@ -114,18 +114,6 @@ kills_without y states region kills rest is b h = record {
   ];
 }
 
-pub kills_aside : (y : Way) (states region : List ℕ) (kills : ByteClass) → (Has region y.from → ⊥) → (Has states y.from → IsLoop y) → AllKill (y ∷ []) states region kills
-kills_aside y states region kills out loop b h = record {
-  inside = λ z there from byte. elim there as (λ _. ⊥) [
-    | inl e ↦ out (subst (λ (x : Way). Has region x.from) (sym e) from)
-    | inr none ↦ absurd none
-  ];
-  outside = λ z there from byte. elim there as (λ _. IsLoop z) [
-    | inl e ↦ subst IsLoop e (loop (subst (λ (x : Way). Has states x.from) (sym e) from))
-    | inr none ↦ absurd none
-  ];
-}
-
 -- ---- what was checked
 
 pub inside_so : (ways : List Way) (states : List ℕ) (members : List Member) (text : List ℕ) (kills : ByteClass) (r : Option Inner) →

@@ -3,7 +3,7 @@ use Rattle.std.proofs.Common.{◌≡◌, ℕ, ◌<◌, Bool, true, false, List, 
 use Rattle.span_core.specs.Lists.{Has, AreDistinct}
 use Rattle.node_arena.specs.Words.{Word}
 use Rattle.output_graph.specs.Forward.{mark_block}
-use Rattle.span_core.proofs.HasLaws.{Has-append_cases, Has-map_cases}
+use Rattle.span_core.proofs.HasLaws.{Has-map_cases}
 
 abbrev tail_of : Word → Word
 tail_of [] = []
@@ -41,14 +41,6 @@ decode at m n (x ∷ u) (y ∷ v) hu hv e =
     let p : x ≡ y = ap (head_of (0, 0)) e in
     let q : u ≡ v = r.0 in
     (cc, r.1)
-
-module _ {X : Type 0} where
-  pub distinct_append : (xs ys : List X) → AreDistinct xs → AreDistinct ys → ((x : X) → Has xs x → Has ys x → ⊥) → AreDistinct (xs ++ ys)
-  distinct_append [] ys a b f = b
-  distinct_append (x ∷ xs) ys a b f = (
-    λ there. elim (Has-append_cases xs ys x there) as (λ _. ⊥) [ inl h ↦ a.0 h | inr h ↦ f x (inl refl) h ],
-    distinct_append xs ys a.1 b (λ y hx hy. f y (inr hx) hy),
-  )
 
 pub distinct_map : (at m : ℕ) (ws : List Word) → ((u : Word) (x : ℕ × ℕ) → Has ws u → Has u x → x.0 < at) → AreDistinct ws → AreDistinct (map (λ w. w ++ mark_block at m) ws)
 distinct_map at m [] below h = tt

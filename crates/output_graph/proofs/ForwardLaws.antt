@@ -6,10 +6,10 @@ use Rattle.span_core.specs.Lists.{Has, AreDistinct}
 use Rattle.node_arena.specs.Words.{Word, words, words_also}
 use Rattle.node_arena.specs.Cells.{NamedLink, HasCell, new_link}
 use Rattle.output_graph.specs.Forward.{Layer, cell_of, set_cell, mark_block, Choice, Chosen, InLayer, AreSources, Stepping}
-use Rattle.span_core.proofs.HasLaws.{Has-map_cases}
+use Rattle.span_core.proofs.HasLaws.{Has-map_cases, distinct_append}
 use Rattle.output_graph.proofs.WordLemmas.{words_here, words_other, other_name}
 use Rattle.output_graph.proofs.WordCases.{word_by_also, word_by_from, word_cases}
-use Rattle.output_graph.proofs.Decode.{decode, distinct_append, distinct_map}
+use Rattle.output_graph.proofs.Decode.{decode, distinct_map}
 
 pub cell_of_set : (layer : Layer) (s c : ℕ) → cell_of (set_cell layer s c) s ≡ Some c
 cell_of_set [] s c = cond-true (nat_eq s s) (Some c) None (eq-eqb s s refl)

@@ -161,9 +161,6 @@ layer_begun cells layer next k was holds sound none =
     let begun : IsSound (graph_of cells layer next 0 was) holds = subst (λ (j : ℕ). IsSound (graph_of cells layer next j was) holds) none sound in
     subst (λ (l : Layer). IsSound (graph_of cells layer l 0 was) holds) (begun.fresh refl) begun
 
-pub place_begun : (cells : List NamedLink) (layer next : Layer) (k was at : ℕ) → IsPlaceOf (graph_of cells layer next k was) at → k ≡ 0 → IsPlaceOf (graph_of cells layer [] 0 was) at
-place_begun cells layer next k was at place none = subst (λ (j : ℕ). IsPlaceOf (graph_of cells layer next j was) at) none place
-
 -- the layer has been stepped, and the next one stands in its place
 module _ (first : Graph) (at : ℕ) (p : Plan) (before : ℕ) (made : List ℕ) (cells : List NamedLink) (holds : Holds) (after : ℕ) (run : HasRun first at p before made cells holds after)
     (layer : Layer) (held : AreHeld first.layer made p.held.items layer) (sets : sets_of layer ≡ p.targets.items) (every : length p.counts.items ≡ length first.layer) where

@@ -133,10 +133,6 @@ held_snoc sources made [] (q ∷ next) r p are e = absurd are
 held_snoc sources made (x ∷ held) [] r p are e = absurd are
 held_snoc sources made (x ∷ held) (q ∷ next) r p are e = (are.0, held_snoc sources made held next r p are.1 e)
 
-pub sets_snoc : (next : Layer) (p : ℕ × ℕ) → sets_of (next ++ p ∷ []) ≡ sets_of next ++ p.0 ∷ []
-sets_snoc [] p = refl
-sets_snoc (q ∷ next) p = ap (λ (ss : List ℕ). q.0 ∷ ss) (sets_snoc next p)
-
 pub take_next : {A : Type 0} (xs : List A) (k : ℕ) (x : A) → slice_get xs k ≡ Some x → take (suc k) xs ≡ take k xs ++ x ∷ []
 take_next [] k x e = cc
 take_next {A = A} (y ∷ xs) zero x e = ap (λ (z : A). z ∷ []) (same_Some y x e)

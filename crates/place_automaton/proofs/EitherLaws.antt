@@ -12,10 +12,6 @@ use Rattle.place_automaton.specs.Places.{either_once}
 pub once_new : (m : ℕ) (done ns : List ℕ) → list_any (nat_eq m) (either_once done ns) ≡ false → either_once (m ∷ done) ns ≡ m ∷ either_once done ns
 once_new m done ns e = ap (λ b. if b then either_once done ns else m ∷ either_once done ns) e
 
--- one that is there comes no more
-pub once_known : (m : ℕ) (done ns : List ℕ) → list_any (nat_eq m) (either_once done ns) ≡ true → either_once (m ∷ done) ns ≡ either_once done ns
-once_known m done ns e = ap (λ b. if b then either_once done ns else m ∷ either_once done ns) e
-
 pub once_pushed : (m : ℕ) (new done ns : List ℕ) → reverse new ++ ns ≡ either_once done ns → list_any (nat_eq m) (either_once done ns) ≡ false →
     reverse (new ++ m ∷ []) ++ ns ≡ either_once (m ∷ done) ns
 once_pushed m new done ns h e = ap (λ xs. xs ++ ns) (reverse-append new (m ∷ [])) ∙ (ap (λ xs. m ∷ xs) h ∙ sym (once_new m done ns e))

@@ -6,7 +6,7 @@ use Rattle.spanner_model.specs.Captures.{VarName}
 use Rattle.span_core.specs.Lists.{Has, AreDistinct}
 use Rattle.spanner_model.specs.Tree.{Tree, empty, one, cat_end, cat, alt_end, alt, rep, cap}
 use Rattle.spanner_model.specs.Expression.{AtomTree}
-use Rattle.span_core.proofs.HasLaws.{Has-append_cases, Has-map_cases}
+use Rattle.span_core.proofs.HasLaws.{Has-append_cases, Has-map_cases, distinct_append}
 use Rattle.marked_automaton.specs.declared.way.Stop.{Stop}
 use Rattle.place_automaton.specs.Atom.{place_stops, stop_before, unless}
 use Rattle.place_automaton.specs.Places.{Places, Placed, stop_with, cat_places, nothing_placed, plus_placed, copies_then, at_most, repeated, placed}
@@ -16,7 +16,7 @@ use Rattle.place_automaton.specs.Words.{opening_of, closing_of, atom_automaton}
 use Rattle.place_automaton.proofs.FineLaws.{Bits, Within, Apart, VarBits, AreNamed, vars_apart, mark_apart, sum_within, zero_within}
 use Rattle.place_automaton.proofs.MarkBits.{HasBit}
 use Rattle.place_automaton.proofs.Ranges.{LiesFrom, LieInPlace, stops_of, places_lie, copies_lie, at_most_lie, nothing_lies}
-use Rattle.place_automaton.proofs.NullSets.{NullSet, distinct_append, sum_left, set_zero, null_set, set_copies, set_at_most}
+use Rattle.place_automaton.proofs.NullSets.{NullSet, sum_left, set_zero, null_set, set_copies, set_at_most}
 
 stop_same : (s t : Stop) → s.state ≡ t.state → s.marks ≡ t.marks → s ≡ t
 stop_same s t e f =

@@ -1,5 +1,5 @@
 -- Null is a set of blocks: none is there twice, and each has bits of the formula's variables alone.
-use Rattle.std.proofs.Common.{◌≡◌, ℕ, zero, suc, ◌+◌, ◌-◌, ◌<◌, ◌≤◌, ◌⊎◌, Bool, true, false, List, [], ◌∷◌, ◌++◌, map, max, Option, Some, None, inl, inr, refl, sym, ap, ◌∙◌, subst, arith, true≢false}
+use Rattle.std.proofs.Common.{◌≡◌, ℕ, zero, suc, ◌+◌, ◌-◌, ◌<◌, ◌≤◌, ◌⊎◌, Bool, true, false, List, [], ◌∷◌, map, max, Option, Some, None, inl, inr, refl, sym, ap, ◌∙◌, subst, arith, true≢false}
 use Rattle.std.specs.Prelude.{bit_or, nat_eq, ◌||◌, if◌then◌else◌}
 use Rattle.std.specs.List.{list_any}
 use Rattle.std.specs.Int.{bit_at}
@@ -9,7 +9,7 @@ use Rattle.std.proofs.lemmas.Nat.Bits.{bit_at-lt, bit_at_or, same_from_bits}
 use Rattle.spanner_model.specs.Captures.{VarName}
 use Rattle.span_core.specs.Lists.{Has, AreDistinct}
 use Rattle.spanner_model.specs.Tree.{Tree, empty, one, cat_end, cat, alt_end, alt, rep, cap}
-use Rattle.span_core.proofs.HasLaws.{Has-append_cases, Has-map_cases}
+use Rattle.span_core.proofs.HasLaws.{Has-map_cases, distinct_append}
 use Rattle.place_automaton.specs.Places.{Placed, add_once, either_once, sums, plus_placed, copies_then, at_most, repeated, placed}
 use Rattle.spanner_model.specs.Sequential.{IsSequential, HasNoVar}
 use Rattle.place_automaton.specs.Repeats.{HasOrderedRepeats}
@@ -43,13 +43,6 @@ sum_left B C apart m n a b wm wn wa wb e = same_from_bits m n (λ i. by i (bit_c
     by i (inr x) (inr y) = x ∙ sym y
     by i (inr x) (inl y) = absurd (no m n a b i wm wn wa wb e x y)
     by i (inl x) (inr y) = absurd (no n m b a i wn wm wb wa (sym e) y x)
-
-pub distinct_append : {X : Type 0} (xs ys : List X) → AreDistinct xs → AreDistinct ys → ((x : X) → Has xs x → Has ys x → ⊥) → AreDistinct (xs ++ ys)
-distinct_append [] ys dx dy apart = dy
-distinct_append (x ∷ xs) ys dx dy apart = (
-  (λ h. elim (Has-append_cases xs ys x h) [ inl a ↦ dx.0 a | inr b ↦ apart x (inl refl) b ]),
-  distinct_append xs ys dx.1 dy (λ n a b. apart n (inr a) b),
-)
 
 -- ---- lists without a block twice, whose bits are all in B
 

@@ -5,7 +5,7 @@ use Rattle.std.proofs.lemmas.List.{length-map}
 use Rattle.std.proofs.lemmas.Option.{slice_get_within}
 use Rattle.span_core.specs.Lists.{Has}
 use Rattle.spanner_model.specs.Captures.{VarName}
-use Rattle.spanner_model.specs.Expression.{ExprTree, union_all, join_all}
+use Rattle.spanner_model.specs.Expression.{ExprTree}
 use Rattle.spanner_model.specs.Sound.{IsSoundExpr}
 use Rattle.span_core.proofs.HasLaws.{Has-slice_get}
 use Rattle.spanner_model.proofs.Nodes.{expr_nodes}
@@ -20,10 +20,10 @@ use Rattle.marked_automaton.specs.Marks.{left_of, remarked_way}
 use Rattle.algebra.specs.JoinedNames.{all_names}
 use Rattle.algebra.specs.Operations.{moved_way}
 use Rattle.algebra.specs.Uniting.{union_over}
-use Rattle.query_automaton.specs.Parts.{HasLargePartOf, HasPart, numbers_of}
+use Rattle.query_automaton.specs.Parts.{HasPart, numbers_of}
 use Rattle.query_automaton.specs.QueryAutomaton.{automaton_of, of_union}
 use Rattle.query_automaton.proofs.Combining.{AreTooLarge, Operation, Union, Join, all_of, of_two}
-use Rattle.query_automaton.proofs.PartLaws.{union_push, join_push, union_part_of, join_part_of, union_step, join_step, large_part}
+use Rattle.query_automaton.proofs.PartLaws.{union_push, join_push, union_step, join_step}
 
 -- ---- lists of parts
 
@@ -50,12 +50,6 @@ part_at V S n Join es k e at sound = let h = Has-slice_get es k e at in (part_si
 pub two_parts : (V S : ℕ → VarName → Type 0) (n : ℕ) (o : Operation) (es : List ExprTree) → IsSoundExpr V S n (all_of o es) → 2 ≤ length es
 two_parts V S n Union es sound = union_two V S n es sound
 two_parts V S n Join es sound = join_two V S n es sound
-
--- what is too large in a part is too large in the whole
-pub large_part_at : (L : ℕ → Marked) (o : Operation) (es : List ExprTree) (k : ℕ) (e : ExprTree) → slice_get es k ≡ Some e → (fault : SizeFault) → HasLargePartOf L e fault →
-    HasLargePartOf L (all_of o es) fault
-large_part_at L Union es k e at fault = large_part L e (union_all es) fault (λ n p. union_part_of L es e n (Has-slice_get es k e at) p)
-large_part_at L Join es k e at fault = large_part L e (join_all es) fault (λ n p. join_part_of L es e n (Has-slice_get es k e at) p)
 
 -- ---- the automata of the first parts
 

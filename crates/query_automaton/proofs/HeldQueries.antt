@@ -14,12 +14,11 @@ use Rattle.marked_automaton.specs.declared.fault.SizeFault.{SizeFault}
 use Rattle.marked_automaton.specs.Faults.{IsSizeFaultWithin}
 use Rattle.marked_automaton.specs.Reduct.{Reduces}
 use Rattle.place_automaton.specs.Words.{atom_automaton}
-use Rattle.algebra.specs.declared.fault.JoinFault.{JoinFault}
 use Rattle.algebra.specs.declared.fault.JoinFault.TheVariants as join
 use Rattle.algebra_minus.specs.declared.fault.MinusFault.{MinusFault}
 use Rattle.algebra_minus.specs.declared.fault.MinusFault.TheVariants as minus
 use Rattle.algebra_minus.specs.Steps.{IsMinusRefusal, IsRefusedWithin}
-use Rattle.algebra.specs.Joining.{IsJoinFault, IsJoinOf, IsSpentOn, most_steps}
+use Rattle.algebra.specs.Joining.{IsJoinOf}
 use Rattle.algebra.specs.JoinedNames.{all_names}
 use Rattle.algebra.specs.Uniting.{union_over}
 use Rattle.query_automaton.proofs.Combined.{united_made}
@@ -30,9 +29,9 @@ use Rattle.query_automaton.specs.BegunQuery.{BegunQuery, HasCauseIn, IsCompiledI
 use Rattle.query_automaton.specs.Compiling.{AreCompiled, IsCompiledFrom}
 use Rattle.query_automaton.specs.Held.{ArePartsWithin, HasCause, HasCauseOf, IsHoldFault, IsWithin, Takes}
 use Rattle.query_automaton.specs.QueryAutomaton.{of_atom, of_join, of_minus, of_union}
-use Rattle.query_automaton.specs.Steps.{join_steps, minus_steps, steps_of_lets, steps_of_query, steps_within}
+use Rattle.query_automaton.specs.Steps.{minus_steps, steps_of_lets, steps_of_query, steps_within}
 use Rattle.query_automaton.specs.Parts.{HasSmallAtoms}
-use Rattle.query_automaton.specs.Told.{IsTold, atom_fault_of, compile_fault, minus_fault}
+use Rattle.query_automaton.specs.Told.{IsTold, atom_fault_of, minus_fault}
 use Rattle.place_automaton.specs.declared.TheConstants as place
 use Rattle.place_automaton.specs.declared.fault.AtomFault.{AtomFault}
 use Rattle.place_automaton.specs.declared.fault.AtomFault.TheVariants as of
@@ -141,13 +140,6 @@ atom_cause L u held effort (of.Ends count) h =
     (omega (arith, h.1, most_ends, most_here), λ most within. omega (arith, h.2, within (record { states = count_states u; ways = count_ways u; ends = count_ends u }) refl))
 
 -- ---- a join
-
--- a refusal of the operation
-pub join_refused : (A B : Marked) (before after : ℕ) → before ≤ after + (A.graph.states + B.graph.states) → (fault : JoinFault) → IsJoinFault A B fault → IsSpentOn after (most_steps A B) fault →
-    IsTold (IsSizeFaultWithin (of_join A B).graph.states (length (of_join A B).graph.ways)) (length (of_join A B).graph.stops) before (join_steps A B) (compile_fault fault)
-join_refused A B before after le (join.Size fault) h spent = h
-join_refused A B before after le (join.Ends count) h spent = h
-join_refused A B before after le join.Spent h spent = omega (arith, le, spent)
 
 pub joined_size : (A B J : Marked) → IsJoinOf A B J → IsMarked J → size J.graph ≤ size (of_join A B).graph
 joined_size A B J of marked =

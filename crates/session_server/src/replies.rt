@@ -10,7 +10,7 @@ ghost use Rattle.session_server.specs.Rows.{more_text};
 
 use cell_text::{push_bytes, push_number};
 use serde_json::{Map, Value, push, put};
-use span_core::{Name, OutOfMemory, VarSet};
+use span_core::{OutOfMemory, VarSet};
 use std::alloc::Global;
 
 /// The line of a JSON object.
@@ -48,19 +48,10 @@ fn names_of(alloc: Global, vars: &VarSet) -> Result<Vec<Value>, OutOfMemory>
 {
     let mut names = Vec::new(alloc);
     for k in 0..vars.len() {
-        let name = Value::try_from_str(alloc, name_text(vars.at(k)))?;
+        let name = Value::try_from_str(alloc, vars.at(k).as_str())?;
         push(&mut names, name)?;
     }
     Ok(names)
-}
-
-fn name_text(name: &Name) -> &str
-    ensures { result.now ≡ name.now }
-{
-    match str::from_utf8(name.as_bytes()) {
-        Ok(text) => text,
-        Err(_) => unreachable!(),
-    }
 }
 
 /// The next rows of a session, as their array, and whether more remain.

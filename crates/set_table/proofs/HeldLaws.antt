@@ -5,7 +5,7 @@ use Rattle.std.specs.List.{filter, sum_by}
 use Rattle.std.specs.FinSet as bytes
 use Rattle.std.proofs.Math.Seq.{get_or-append_right}
 use Rattle.std.proofs.lemmas.Bool.{cases_lt}
-use Rattle.std.proofs.lemmas.List.{length-set, length-replicate, get_or-replicate, get_or-set_same, get_or-set_other, get_or_append_left, get_or_past, get_or_read, length-map, map-append, take_all}
+use Rattle.std.proofs.lemmas.List.{length-set, length-replicate, get_or-replicate, get_or-set_same, get_or-set_other, get_or_append_left, get_or_past, get_or_read, length-map, map-append}
 use Rattle.std.proofs.lemmas.List.Sums.{sum_by-append}
 use Rattle.std.proofs.lemmas.Option.{slice_get-get_or}
 use Rattle.span_core.specs.declared.edge.Edge.{Edge}
@@ -202,10 +202,6 @@ held_same A sets sets' answers answers' es es' ends ends' numbers numbers' w a b
     (subst (λ (v : List Edge). IsHeld A sets' answers' v ends numbers w) c
     (subst (λ (v : List Answer). IsHeld A sets' v es ends numbers w) b
     (subst (λ (v : List (List ℕ)). IsHeld A v answers es ends numbers w) a h))))
-
--- what is left of a longer list
-pub cut_back : {X : Type 0} (xs ys : List X) (n : ℕ) → IsLongerBy xs ys → n ≡ length xs → xs ≡ take n ys
-cut_back xs ys n more e = sym ((λ i. take (e i) (more.1 i)) ∙ (take_stays (length xs) xs more.0 (omega arith) ∙ take_all (length xs) xs (omega arith)))
 
 -- ---- an answer more
 

@@ -25,6 +25,14 @@ module _ {X : Type 0} where
   Has-get_or (x ∷ xs) zero d h = inl refl
   Has-get_or (x ∷ xs) (suc i) d h = inr (Has-get_or xs i d (omega arith))
 
+  -- two lists without repeats that share nothing are one without repeats
+  pub distinct_append : (xs ys : List X) → AreDistinct xs → AreDistinct ys → ((x : X) → Has xs x → Has ys x → ⊥) → AreDistinct (xs ++ ys)
+  distinct_append [] ys a b apart = b
+  distinct_append (x ∷ xs) ys a b apart = (
+    (λ h. elim (Has-append_cases xs ys x h) [ inl l ↦ a.0 l | inr r ↦ apart x (inl refl) r ]),
+    distinct_append xs ys a.1 b (λ y l r. apart y (inr l) r),
+  )
+
   -- what stands at a place is in the list
   pub Has-slice_get : (xs : List X) (i : ℕ) (x : X) → slice_get xs i ≡ Some x → Has xs x
   Has-slice_get [] i x h = absurd (cc)

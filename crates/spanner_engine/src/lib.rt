@@ -7,11 +7,8 @@
 pub use answers::Answers;
 pub use beginning::{BeginFault, Options, begin, begin_by, begin_with};
 pub use cache::Cache;
-<<<<<<< ours
 pub use coming::{Going, Stage, read_on};
-=======
 pub use enumerator::{EndRun, MOST_ENDS};
->>>>>>> theirs
 pub use query_automaton::{Compiled, compile};
 pub use rows::TestedRows;
 pub use tested::{advance_tested, next_tested};

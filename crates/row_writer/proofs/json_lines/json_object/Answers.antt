@@ -19,7 +19,7 @@ loop-k-preserved c =
     let x = c.at-in-loop-k.result.now in
     let next : suc k ≡ k + 1 = omega arith in
     c.in_ok-put.ensures.ok
-    ∙ ap (λ (n : List ℕ). put n (view c.in_ok-cell.cell) (members_view c.loop-k.members.entries)) c.name_text.ensures
+    ∙ ap (λ (n : List ℕ). put n (view c.in_ok-cell.cell) (members_view c.loop-k.members.entries)) c.as_str.ensures
     ∙ ap (λ (d : Data). put x d (members_view c.loop-k.members.entries)) c.in_ok-cell.ensures
     ∙ ap (λ (ms : Members). put x (json_cell c.args.doc.now c.args.texts c.at.result) ms) c.loop-k.invariant
     ∙ put_next c.args.doc.now c.args.texts c.args.vars.now c.args.row.now k x c.at.result c.len-k-end.ensures.ascending c.at-in-loop-k.ensures.value c.at.ensures
