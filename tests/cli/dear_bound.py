@@ -1,6 +1,6 @@
 """The bound for dear queries (dear_queries.py): 10 seconds of the processor and 1 GB of memory.
 
-Each ends within it, by rows or by a refusal that says its cause, on the empty document and on its own. The page dear.md lists
+Each ends within it, by rows or by a refusal that says its cause, on the empty document and on its own. The page docs/LIMITS.md lists
 those that do not, and is tested: one that passes the bound and is not there fails, and one that is there and meets it. Of those
 that nobody has judged yet it is told what they do.
 """
@@ -11,7 +11,7 @@ from typing import NamedTuple, Optional
 
 from limited import Limits, lay_out, run
 
-PAGE = os.path.join(os.path.dirname(os.path.abspath(__file__)), 'dear.md')
+PAGE = os.path.join(os.path.dirname(os.path.dirname(os.path.dirname(os.path.abspath(__file__)))), 'docs', 'LIMITS.md')
 PASSING = ['Known to pass the bound', 'Inherent']
 NOT_JUDGED = ['Not judged yet']
 SECONDS = 10  # of the processor
@@ -35,7 +35,7 @@ def listed(headings):
         text = file.read()
     found = []
     for heading in headings:
-        section = text.partition('\n## %s\n' % heading)[2].split('\n## ')[0]
+        section = text.partition('\n### %s\n' % heading)[2].partition('\n##')[0]
         cells = [line.split('|')[1].strip() for line in section.splitlines() if line.startswith('|')]
         found += cells[2:]  # without the head and the line below it
     return found
@@ -91,10 +91,10 @@ def wrong_with(one, found, passing, not_judged):
     if not found.is_right:
         return 'ended by %d, %r' % (found.ended.status, found.ended.note[:80])
     if one.name in not_judged:
-        print('not judged in tests/cli/dear.md: %s %s' % (one.name, told(found)))
+        print('not judged in docs/LIMITS.md: %s %s' % (one.name, told(found)))
         return None
     if found.passes and one.name not in passing:
         return told(found)
     if not found.passes and one.name in passing:
-        return told(found) + ': take its line out of tests/cli/dear.md'
+        return told(found) + ': take its line out of docs/LIMITS.md'
     return None

@@ -95,7 +95,7 @@ def of_sessions():
 
 
 def of_long_documents():
-    """What no engine of this kind can do faster, as the page `dear.md` says."""
+    """What no engine of this kind can do faster, as docs/LIMITS.md says."""
     dear('spans longer than a thousand, 400,000 bytes', r'/!x{(.|\n)*}/ minus /!x{(.|\n){0,1000}}/',
          drawn_bytes('ab \n', 400000), is_worst=False)
     dear('a test that never passes, 60,000 bytes', '/!x{a*}/ where upper(x)', b'a' * 60000, is_worst=False)
