@@ -18,8 +18,8 @@ import zlib
 HERE = os.path.dirname(os.path.abspath(__file__))
 ROOT = os.path.dirname(os.path.dirname(HERE))
 NAME = 'rematch_client'
-SCRIPTS = {'rematch-to': 'rematch.convert:main', 'rematch-cut': 'rematch.pieces:cut_main',
-           'rematch-piece': 'rematch.pieces:piece_main', 'rematch-play': 'rematch.play:main', 'rematch-serve': 'rematch.relay:main'}
+SCRIPTS = {'rematch-to': 'rematch.to.convert:main', 'rematch-cut': 'rematch.to.piece:cut_main',
+           'rematch-piece': 'rematch.to.piece:piece_main', 'rematch-play': 'rematch.to.play:main', 'rematch-serve': 'rematch.to.relay:main'}
 GLIBC = (2, 34)  # the oldest C library that the program runs on
 
 
@@ -83,10 +83,10 @@ def _tag(program):
 
 
 def _entries(program, library, base):
-    package = os.path.join(HERE, 'rematch')
-    for name in sorted(os.listdir(package)):
-        if name.endswith('.py') or name == 'py.typed':
-            yield 'rematch/' + name, _read(package, name), 0o644
+    for folder in ('rematch', 'rematch/to'):
+        for name in sorted(os.listdir(os.path.join(HERE, folder))):
+            if name.endswith('.py') or name == 'py.typed':
+                yield folder + '/' + name, _read(HERE, folder, name), 0o644
     if program is not None:
         yield 'rematch/bin/rematch', program, 0o755
         yield base + '.data/scripts/rematch', program, 0o755

@@ -115,8 +115,9 @@ for name in rematch-to rematch-piece; do
 done
 
 if command -v python3 >/dev/null 2>&1 && python3 -c 'import sys, zipapp; sys.exit(sys.version_info < (3, 8))' 2>/dev/null; then
-    mkdir "$made/app" "$made/app/rematch"
+    mkdir "$made/app" "$made/app/rematch" "$made/app/rematch/to"
     cp "$clients"/python/rematch/*.py "$clients"/python/rematch/py.typed "$made/app/rematch"
+    cp "$clients"/python/rematch/to/*.py "$made/app/rematch/to"
     cp "$clients/python/rematch/__main__.py" "$made/app/__main__.py"
     python3 -m zipapp -c -p '/usr/bin/env python3' -o "$made/rematch-to" "$made/app"
     put "$made/rematch-to" "$bin/rematch-to" 755 \

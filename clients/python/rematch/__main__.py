@@ -7,15 +7,15 @@ def run() -> int:
     """Runs the command that this is called by; under another name rematch-to."""
     name = os.path.basename(sys.argv[0])
     if name == 'rematch-cut':
-        from rematch.pieces import cut_main as main
+        from rematch.to.piece import cut_main as main
     elif name == 'rematch-piece':
-        from rematch.pieces import piece_main as main
+        from rematch.to.piece import piece_main as main
     elif name == 'rematch-play':
-        from rematch.play import main
+        from rematch.to.play import main
     elif name == 'rematch-serve':
-        from rematch.relay import main
+        from rematch.to.relay import main
     else:
-        from rematch.convert import main
+        from rematch.to.convert import main
     return main()
 
 

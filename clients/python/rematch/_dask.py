@@ -9,12 +9,12 @@ from .program import find_program
 from .query import Query
 
 if TYPE_CHECKING:
-    from .pieces import _Path
+    from .pieces import Path
 
 __all__ = ['on_dask']
 
 
-def on_dask(client: Any, query: Query, paths: 'Union[_Path, Iterable[_Path]]', *, size: int = 8_000_000, frame: bool = False) -> Any:
+def on_dask(client: Any, query: Query, paths: 'Union[Path, Iterable[Path]]', *, size: int = 8_000_000, frame: bool = False) -> Any:
     """The rows of documents, cut into pieces of ``size`` bytes that are searched on the workers of a Dask client.
 
     The answer is a ``dask.bag`` of one ``dict`` a row, or with ``frame`` a ``dask.dataframe``. Its members or columns are
@@ -28,7 +28,7 @@ def on_dask(client: Any, query: Query, paths: 'Union[_Path, Iterable[_Path]]', *
     from dask import delayed
     lines = reach(query)
     client.run(find_program)
-    given: List[_Path] = [paths] if isinstance(paths, (str, os.PathLike)) else list(paths)
+    given: List[Path] = [paths] if isinstance(paths, (str, os.PathLike)) else list(paths)
     ask: Any = delayed(_table, pure=False)
     parts = [ask(query, os.fspath(path), *piece, lines) for path in given for piece in cuts(path, size)]
     if frame:

@@ -180,10 +180,10 @@ class _Formula:
             return 1.0
         if part.kind == 'class':
             return float(_has_line_feed(part.text))
-        return float(part.kind != 'dot' and _byte(part.text) == _LINE_FEED)
+        return float(part.kind != 'dot' and byte_of(part.text) == _LINE_FEED)
 
 
-def _byte(sign: bytes) -> int:
+def byte_of(sign: bytes) -> int:
     """The byte that a sign of the printed form stands for."""
     if sign in _ESCAPES:
         return _ESCAPES[sign]
@@ -195,9 +195,9 @@ def _has_line_feed(text: bytes) -> bool:
     signs = re.findall(rb'\\x[0-9a-f]{2}|\\.|.', text[1:-1], re.S)
     at = 0
     while at < len(signs):
-        low = high = _byte(signs[at])
+        low = high = byte_of(signs[at])
         if at + 2 < len(signs) and signs[at + 1] == b'-':
-            high = _byte(signs[at + 2])
+            high = byte_of(signs[at + 2])
             at += 2
         at += 1
         if low <= _LINE_FEED <= high:

@@ -22,7 +22,7 @@ def _made(text: Union[str, bytes], program: Optional[str]) -> Query:
     return Query(text)
 
 
-def _query(text: Union[str, bytes, Query]) -> Query:
+def query_of(text: Union[str, bytes, Query]) -> Query:
     return text if isinstance(text, Query) else _made(text, os.environ.get('REMATCH'))
 
 
@@ -34,7 +34,7 @@ def search(query: Union[str, bytes, Query], document: 'Source', *, after: str = 
     >>> search('/!x{c}/', 'baa') is None
     True
     """
-    return _query(query).search(document, after=after)
+    return query_of(query).search(document, after=after)
 
 
 def findall(query: Union[str, bytes, Query], document: 'Source', *, after: str = 'start',
@@ -44,7 +44,7 @@ def findall(query: Union[str, bytes, Query], document: 'Source', *, after: str =
     >>> findall('/!x{a+}/', 'aa')
     [<rematch.Match x=0-1>, <rematch.Match x=0-2>, <rematch.Match x=1-2>]
     """
-    return _query(query).findall(document, after=after, limit=limit)
+    return query_of(query).findall(document, after=after, limit=limit)
 
 
 def finditer(query: Union[str, bytes, Query], document: 'Source', *, after: str = 'start',
@@ -54,7 +54,7 @@ def finditer(query: Union[str, bytes, Query], document: 'Source', *, after: str 
     >>> [match['x'] for match in finditer('/!x{a+}/', 'aa')]
     ['a', 'aa', 'a']
     """
-    return _query(query).finditer(document, after=after, limit=limit)
+    return query_of(query).finditer(document, after=after, limit=limit)
 
 
 def sub(query: Union[str, bytes, Query], replacement: 'Replacement', document: 'Source', *, name: Optional[str] = None,
@@ -64,4 +64,4 @@ def sub(query: Union[str, bytes, Query], replacement: 'Replacement', document: '
     >>> sub(r'/from !ip{[\d.]+} /', '*', 'from 192.0.2.7 port 22')
     'from * port 22'
     """
-    return _query(query).sub(replacement, document, name=name, count=count)
+    return query_of(query).sub(replacement, document, name=name, count=count)

@@ -9,7 +9,7 @@ from typing import IO, Any, List, Optional, Sequence, Union
 from weakref import ref
 
 from .faults import DocumentError
-from .program import _held
+from .program import held_file
 
 __all__ = ['Document', 'Source', 'MOST_BYTES']
 
@@ -21,8 +21,8 @@ Source = Union[bytes, bytearray, memoryview, str, 'os.PathLike[str]', 'os.PathLi
 
 _Places = Union['array[int]', '_Counted']
 
-_BEGINS = bytes(0 if 0x80 <= byte < 0xC0 else 1 for byte in range(256))  # whether a character begins at a byte
-_REST = bytes(range(0x80, 0xC0))  # the bytes of which none begins a character
+BEGINS = bytes(0 if 0x80 <= byte < 0xC0 else 1 for byte in range(256))  # whether a character begins at a byte
+REST = bytes(range(0x80, 0xC0))  # the bytes of which none begins a character
 _SMALL = 4096  # bytes of a text whose places are all worked out at once
 _BLOCK = 1024  # bytes of which the characters are counted together
 _COPIED = 1 << 22
@@ -124,7 +124,7 @@ class Document:
             if position is not None:
                 file.seek(position)
         except (OSError, UnicodeDecodeError) as fault:
-            raise _unreadable(self.name, fault) from fault
+            raise unreadable(self.name, fault) from fault
         if isinstance(found, str):
             self._take_text(found)
         else:
@@ -152,7 +152,7 @@ class Document:
     def _read_path(self) -> None:
         """Copies the file to one that no one else can change, and maps it."""
         with self._open_path() as file:
-            held = _held(b'')
+            held = held_file(b'')
             try:
                 length = 0
                 while length <= MOST_BYTES:  # of what is longer, enough is kept to be refused
@@ -166,7 +166,7 @@ class Document:
                 self._data = mmap.mmap(held, length, access=mmap.ACCESS_READ) if length else b''
             except OSError as fault:
                 os.close(held)
-                raise _unreadable(self.name, fault) from fault
+                raise unreadable(self.name, fault) from fault
         self._held = held
 
     def _open_path(self) -> IO[bytes]:
@@ -174,7 +174,7 @@ class Document:
         try:
             return open(self._path, 'rb', buffering=0)
         except OSError as fault:
-            raise _unreadable(self.name, fault) from fault
+            raise unreadable(self.name, fault) from fault
 
     def opened(self, *, keep: bool) -> IO[bytes]:
         """A new open file of the document, at its start, for the program to read.
@@ -205,11 +205,11 @@ class Document:
         if self._held is None:
             data = self.data
             if self._held is None:
-                self._held = _held(data)  # type: ignore[arg-type]
+                self._held = held_file(data)  # type: ignore[arg-type]
         try:
             return open(f'/proc/self/fd/{self._held}', 'rb', buffering=0)
         except OSError:  # no such system: a copy of its own
-            return os.fdopen(_held(bytes(self.data)), 'rb', buffering=0)
+            return os.fdopen(held_file(bytes(self.data)), 'rb', buffering=0)
 
     # -- How places are counted
 
@@ -231,7 +231,7 @@ class Document:
 
 def _all_places(data: bytes) -> 'array[int]':
     """For each place in bytes the number of characters that begin before it; at last -1, which stands at -1."""
-    places = array('i', accumulate(data.translate(_BEGINS), initial=0))
+    places = array('i', accumulate(data.translate(BEGINS), initial=0))
     places.append(-1)
     return places
 
@@ -253,14 +253,14 @@ class _Counted:
         before = self._before
         if before is None:
             data = self._data
-            sizes = (len(data[start:start + _BLOCK].translate(None, _REST)) for start in range(0, len(data), _BLOCK))
+            sizes = (len(data[start:start + _BLOCK].translate(None, REST)) for start in range(0, len(data), _BLOCK))
             before = self._before = array('i', accumulate(sizes, initial=0))
         self._left -= 1
         document = self._document()
         if self._left < 0 and document is not None and document._places is self:
             document._places = _all_places(self._data)
         block = at // _BLOCK
-        return before[block] + len(self._data[block * _BLOCK:at].translate(None, _REST))
+        return before[block] + len(self._data[block * _BLOCK:at].translate(None, REST))
 
 
 def _warn(message: str) -> None:
@@ -300,7 +300,7 @@ def _warn_of_packed(path: Union[str, bytes]) -> None:
         _warn(f'{os.fsdecode(path)} is packed, and its packed bytes are searched: {module}.open(path) gives what is in it')
 
 
-def _unreadable(name: Optional[str], fault: Exception) -> DocumentError:
+def unreadable(name: Optional[str], fault: Exception) -> DocumentError:
     reason = getattr(fault, 'strerror', None) or str(fault)
     found = DocumentError('read failed: document', 5)
     found.filename, found.reason = name, reason

@@ -11,10 +11,10 @@ import re
 import time
 from typing import IO, TYPE_CHECKING, Any, Callable, Iterator, Optional, Set, Union
 
-from .documents import MOST_BYTES, Document, _unreadable
+from .documents import MOST_BYTES, Document, unreadable
 from .faults import DocumentError
 from .match import Match, Row
-from .pieces import NoReach, _lines_back, reach
+from .pieces import NoReach, lines_back, reach
 
 if TYPE_CHECKING:
     from .query import Query
@@ -95,7 +95,7 @@ class Followed:
 
     def pass_over(self, file: IO[bytes], place: int) -> None:
         """Takes what stands before a place of the file as known: its rows are not given."""
-        first = _lines_back(file, place, 2 * self.lines)
+        first = lines_back(file, place, 2 * self.lines)
         file.seek(first)
         known = file.read(place - first)
         self.begins = self.settled = first
@@ -149,7 +149,7 @@ def _opened(path: Union[str, 'os.PathLike[str]']) -> IO[bytes]:
     try:
         return open(path, 'rb', buffering=0)
     except OSError as fault:
-        raise _unreadable(os.fspath(path), fault) from fault
+        raise unreadable(os.fspath(path), fault) from fault
 
 
 def _has_begun_anew(path: Union[str, 'os.PathLike[str]'], file: IO[bytes]) -> bool:

@@ -11,7 +11,7 @@ import re
 from itertools import chain, islice, repeat
 from typing import TYPE_CHECKING, Any, FrozenSet, Iterable, Iterator, List, Optional, Tuple, Union
 
-from ._reach import NoReach, _byte, reach_of_printed
+from ._reach import NoReach, byte_of, reach_of_printed
 from .documents import Document
 from .faults import DocumentError, OutOfMemory, ProgramNotFound, QueryError, RematchError, SizeError
 from .formula import Atom, Part, parts_of
@@ -38,9 +38,9 @@ def _class_bytes(text: bytes) -> Iterator[int]:
     signs = re.findall(rb'\\x[0-9a-f]{2}|\\.|.', text[1:-1], re.S)
     at = 0
     while at < len(signs):
-        low = high = _byte(signs[at])
+        low = high = byte_of(signs[at])
         if at + 2 < len(signs) and signs[at + 1] == b'-':
-            high = _byte(signs[at + 2])
+            high = byte_of(signs[at + 2])
             at += 2
         at += 1
         yield from range(low, high + 1)
@@ -51,7 +51,7 @@ def _read_by(part: Part) -> Iterable[int]:
         return _class_bytes(part.text)
     if part.kind == 'dot':
         return (byte for byte in range(256) if byte != 0x0a)
-    return (_byte(part.text),) if part.kind in ('literal', 'escape') else ()
+    return (byte_of(part.text),) if part.kind in ('literal', 'escape') else ()
 
 
 def _formulas(printed: bytes) -> List[List[Part]]:

@@ -5,7 +5,7 @@ from typing import Any, List, Tuple, Union
 
 import pandas
 
-from .calls import _query
+from .calls import query_of
 from .match import Matches
 from .query import Query
 
@@ -46,7 +46,7 @@ class Accessor:
         >>> series.rematch.table('/=!value{[0-9]}/').value.to_dict()
         {('a', 0): '1', ('a', 1): '2', ('c', 0): '3'}
         """
-        made = _query(query)
+        made = query_of(query)
         labels, texts = self._texts()
         found: List[Matches[Any]] = list(made.map(texts))
         if self._series.index.nlevels == 1:
@@ -69,6 +69,6 @@ class Accessor:
         [2, 0, 0]
         """
         _, texts = self._texts()
-        rows = iter([len(matches) for matches in _query(query).map(texts)])
+        rows = iter([len(matches) for matches in query_of(query).map(texts)])
         counts = [next(rows) if isinstance(value, (str, bytes)) else 0 for value in self._series]
         return pandas.Series(counts, self._series.index, dtype='int64', name=self._series.name)

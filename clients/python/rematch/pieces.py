@@ -13,14 +13,14 @@ from __future__ import annotations
 import os
 from typing import IO, Any, Dict, Iterator, List, NamedTuple, Optional, Sequence, Tuple, Union
 
-from .documents import _unreadable, packed_by
+from .documents import unreadable, packed_by
 from .match import Row
 from .query import Query
 from ._reach import NoReach, reach_of_printed
 
 __all__ = ['NoReach', 'Piece', 'cuts', 'reach', 'rows_of_piece', 'rows_in_pieces', 'table_of_piece']
 
-_Path = Union[str, 'os.PathLike[str]']
+Path = Union[str, 'os.PathLike[str]']
 _BLOCK = 1 << 16  # bytes that are read at once in search of line feeds
 _USUAL = 64_000_000  # bytes of a piece where no size is asked for
 
@@ -50,14 +50,14 @@ def reach(query: Query) -> int:
     return reach_of_printed(query.printed.encode())
 
 
-def _open(path: _Path) -> IO[bytes]:
+def _open(path: Path) -> IO[bytes]:
     try:
         return open(path, 'rb')
     except OSError as fault:
-        raise _unreadable(os.fspath(path), fault) from fault
+        raise unreadable(os.fspath(path), fault) from fault
 
 
-def cuts(path: _Path, size: int) -> Iterator[Piece]:
+def cuts(path: Path, size: int) -> Iterator[Piece]:
     """The pieces of a file: each of at least ``size`` bytes, the last aside, and up to a line end.
 
     An empty file is one empty piece. A file that cannot be read, and one that is packed, raises `DocumentError`.
@@ -72,7 +72,7 @@ def cuts(path: _Path, size: int) -> Iterator[Piece]:
         raise ValueError(f'a piece has 1 byte or more, not {size}')
     with _open(path) as file:
         if packed_by(file.read(10)) is not None:
-            raise _unreadable(os.fspath(path), ValueError('it is packed: unpack it first'))
+            raise unreadable(os.fspath(path), ValueError('it is packed: unpack it first'))
         total, start = os.fstat(file.fileno()).st_size, 0
         while True:
             end = min(start + size, total)
@@ -86,7 +86,7 @@ def cuts(path: _Path, size: int) -> Iterator[Piece]:
                 return
 
 
-def _lines_back(file: IO[bytes], at: int, lines: int) -> int:
+def lines_back(file: IO[bytes], at: int, lines: int) -> int:
     """The start of the line that is so many lines before that of a place; of a place at a line's start, one line more."""
     wanted, end = lines + 1, max(0, at - 1)
     while end:
@@ -116,7 +116,7 @@ def _lines_on(file: IO[bytes], at: int, lines: int) -> int:
     return at
 
 
-def rows_of_piece(query: Query, path: _Path, start: int, end: int, lines: Optional[int] = None) -> Iterator[Row]:
+def rows_of_piece(query: Query, path: Path, start: int, end: int, lines: Optional[int] = None) -> Iterator[Row]:
     """The rows whose first span begins from ``start`` up to ``end``, with the places of the whole file, in bytes.
 
     Rows are those of `Query.rows`. A row that begins at the file's very end belongs to the piece that ends there.
@@ -133,18 +133,18 @@ def rows_of_piece(query: Query, path: _Path, start: int, end: int, lines: Option
     return _taken(query, path, Piece(start, end), lines)[2]
 
 
-def _taken(query: Query, path: _Path, piece: Piece, lines: Optional[int]) -> Tuple[int, bytes, Iterator[Row]]:
+def _taken(query: Query, path: Path, piece: Piece, lines: Optional[int]) -> Tuple[int, bytes, Iterator[Row]]:
     """Where what is read for a piece begins, the bytes that are read, and the rows of the piece."""
     reached = reach(query) if lines is None else lines
     with _open(path) as file:
         total = os.fstat(file.fileno()).st_size
         piece = Piece(min(piece.start, total), min(piece.end, total))
-        first = _lines_back(file, piece.start, reached)
+        first = lines_back(file, piece.start, reached)
         last = _lines_on(file, piece.end, reached)
         file.seek(first)
         part = file.read(last - first)
     if len(part) != last - first:
-        raise _unreadable(os.fspath(path), ValueError('the file has changed while it was read'))
+        raise unreadable(os.fspath(path), ValueError('the file has changed while it was read'))
     return first, part, _owned(query, part, first, piece, piece.end == total)
 
 
@@ -158,7 +158,7 @@ def _owned(query: Query, part: bytes, first: int, piece: Piece, owns_end: bool) 
             yield tuple([place if place < 0 else place + first for place in row])
 
 
-def table_of_piece(query: Query, path: _Path, start: int, end: int, lines: Optional[int] = None) -> Dict[str, Sequence[Any]]:
+def table_of_piece(query: Query, path: Path, start: int, end: int, lines: Optional[int] = None) -> Dict[str, Sequence[Any]]:
     """The rows of `rows_of_piece` as columns: those of `Query.table`, with ``document`` before them.
 
     Texts are ``str``; bytes that are no UTF-8 stand in them as \\xhh.
@@ -182,7 +182,7 @@ def table_of_piece(query: Query, path: _Path, start: int, end: int, lines: Optio
     return table
 
 
-def rows_in_pieces(query: Query, path: _Path, size: Optional[int] = None, lines: Optional[int] = None) -> Iterator[Row]:
+def rows_in_pieces(query: Query, path: Path, size: Optional[int] = None, lines: Optional[int] = None) -> Iterator[Row]:
     """The rows of a whole file, one piece after another, so that a file of any length can be searched.
 
     ``size`` is the least length of a piece in bytes, and ``lines`` the query's reach, where it is known. Raises what
@@ -194,72 +194,3 @@ def rows_in_pieces(query: Query, path: _Path, size: Optional[int] = None, lines:
 
 
 # -- Lines, and the two commands
-
-def line_of(query: Query, row: Row, form: str) -> str:
-    """The line of a row as the program writes it in that form: spans, table or json.
-
-    >>> from rematch import Query
-    >>> query = Query('/(!x{a})?!y{b}/')
-    >>> [line_of(query, (-1, -1, 1, 2), form) for form in ('spans', 'table', 'json')]
-    ['x=- y=1-2', '-\\t1-2', '{"x":null,"y":[1,2]}']
-    """
-    places = iter(row)
-    spans: Sequence[Tuple[str, int, int]] = list(zip(query.variables, places, places))
-    if form == 'json':
-        return '{' + ','.join(f'"{name}":{f"[{start},{end}]" if start >= 0 else "null"}' for name, start, end in spans) + '}'
-    cells = [f'{start}-{end}' if start >= 0 else '-' for _, start, end in spans]
-    if form == 'table':
-        return '\t'.join(cells)
-    return ' '.join(f'{name}={cell}' for (name, _, _), cell in zip(spans, cells))
-
-
-def cut_main(words: Optional[List[str]] = None) -> int:
-    """``rematch-cut``: the pieces of a document, a line each."""
-    from argparse import ArgumentParser
-    from .command import run_told
-    parser = ArgumentParser(prog='rematch-cut', description='Cut a document at line ends: write START END, in bytes, of each piece.')
-    parser.add_argument('document', help='a file')
-    parser.add_argument('size', type=int, help='the least length of a piece, in bytes')
-    given = parser.parse_args(words)
-
-    def run() -> None:
-        for piece in cuts(given.document, given.size):
-            print(piece.start, piece.end)
-
-    return run_told(run)
-
-
-def expanded_query(path: str) -> Query:
-    """The query of a file, whose conveniences are written out; a fault is at its place in the file."""
-    from .expand import expanded
-    from .faults import QueryError
-    with open(path, 'rb') as file:
-        found = expanded(file.read())
-    try:
-        return Query(found.text)
-    except QueryError as fault:
-        raise found.fault(fault) from None
-
-
-def piece_main(words: Optional[List[str]] = None) -> int:
-    """``rematch-piece``: the rows of one piece, as the program writes them."""
-    import sys
-    from argparse import ArgumentParser
-    from .command import run_told
-    parser = ArgumentParser(prog='rematch-piece', description='Write the rows that begin in a piece of a document, with the places of the '
-                            'whole. Pieces one after another write what one run on the whole document does.')
-    parser.add_argument('query', help='a file that holds the query')
-    parser.add_argument('document', help='a file')
-    parser.add_argument('start', type=int, help='where the piece begins, in bytes from 0')
-    parser.add_argument('end', type=int, help='where it ends')
-    parser.add_argument('-f', dest='form', choices=['spans', 'table', 'json'], default='spans', help='the form of a row (spans)')
-    given = parser.parse_args(words)
-
-    def run() -> None:
-        query = expanded_query(given.query)
-        if given.form == 'table' and given.start == 0:
-            print('\t'.join(query.variables))
-        for row in rows_of_piece(query, given.document, given.start, given.end):
-            sys.stdout.write(line_of(query, row, given.form) + '\n')
-
-    return run_told(run)

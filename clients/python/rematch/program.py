@@ -81,7 +81,7 @@ class Run:
         if is_word:
             given.append(b'-e=' + query)
         else:
-            held = _held(query)
+            held = held_file(query)
             given.append(f'-q=/dev/fd/{held}')
         given += words
         try:
@@ -137,7 +137,7 @@ class Run:
                 stream.close()
 
 
-def _held(data: bytes) -> int:
+def held_file(data: bytes) -> int:
     """An open file of these bytes without a name, at its start."""
     if hasattr(os, 'memfd_create'):
         number = os.memfd_create('rematch', os.MFD_CLOEXEC)

@@ -12,14 +12,14 @@ from array import array
 from itertools import accumulate
 from typing import Any, Dict, Iterable, Iterator, List, Optional, Set, Union
 
-from .documents import _BEGINS, Document
+from .documents import BEGINS, Document
 from .faults import DocumentError, OutOfMemory, ProgramError, ProgramNotFound, QueryError, RematchError, SizeError, error_of
 from .match import Match, Matches, Row, Variables
 from .program import find_program
 
 __all__ = ['Server', 'Served', 'Session', 'SessionError']
 
-_LONGEST = 1_048_576  # bytes of a request
+LONGEST_REQUEST = 1_048_576  # bytes of a request
 _MOST_ROWS = 1000  # of one request
 _PART = 150_000  # characters of a document that are sent at once where it does not fit one request
 _WAITED = 10  # seconds that a server has to end once its input has ended
@@ -35,10 +35,10 @@ class SessionError(RematchError, RuntimeError):
     """A request that is refused: it is none, its session is not open or is lost with its server, or 64 are open already."""
 
 
-def _refusal(request: Any) -> Optional[str]:
+def refusal(request: Any) -> Optional[str]:
     """Why this is no request; None where it is one.
 
-    >>> _refusal({'op': 'next', 'id': 1, 'n': 5000}), _refusal({'op': 'close', 'id': 1})
+    >>> refusal({'op': 'next', 'id': 1, 'n': 5000}), refusal({'op': 'close', 'id': 1})
     ('n is a whole number from 1 to 1000, not 5000', None)
     """
     if not isinstance(request, dict):
@@ -206,8 +206,8 @@ class Server:
 
     def _answer(self, request: Dict[str, Any], query: bytes, restarts: Optional[int]) -> Dict[str, Any]:
         line = _line(request)
-        if len(line) > _LONGEST:
-            raise DocumentError(f'request longer than {_LONGEST} bytes', 6, query)
+        if len(line) > LONGEST_REQUEST:
+            raise DocumentError(f'request longer than {LONGEST_REQUEST} bytes', 6, query)
         with self._lock:
             self._alive(request.get('op') == 'open', self.restarts if restarts is None else restarts)
             process = self._process
@@ -246,7 +246,7 @@ class Server:
         ...     server.ask({'op': 'open', 'id': 7, 'query': '/!x{a}/', 'doc': 'a'}), server.ask({'op': 'next', 'id': 7, 'n': 9})
         ({'id': 7, 'variables': ['x']}, {'id': 7, 'more': False, 'rows': [{'x': [0, 1]}]})
         """
-        reason = _refusal(request)
+        reason = refusal(request)
         try:
             if reason is None:
                 _line(request)
@@ -324,7 +324,7 @@ class _Kept:
             if self.places is None:
                 self.places = array('i', range(self.length + 1))
             before = self.places[-1]
-            found = accumulate(data.translate(_BEGINS), initial=before)
+            found = accumulate(data.translate(BEGINS), initial=before)
             next(found)
             self.places.extend(found)
         self.length += len(data)
@@ -386,7 +386,7 @@ class Session:
         except UnicodeDecodeError as fault:
             raise QueryError(f'query: not UTF-8 at {fault.start}', 3, self._query) from None
         request = {'op': 'open', 'id': self._number, 'query': asked, 'doc': shown}
-        is_short = len(shown) < _LONGEST and len(_line(request)) <= _LONGEST
+        is_short = len(shown) < LONGEST_REQUEST and len(_line(request)) <= LONGEST_REQUEST
         if not is_short:
             request['doc'] = ''
         reply = server._ask(request, self._query)

@@ -38,7 +38,7 @@ _ON_LIGHT = _colours(_LIGHT) + '--rm-dim:#5c636a;--rm-rule:#e9ecef;--rm-lit:#ffe
 _DARK_BOOKS = '[data-jp-theme-light="false"] .rm,.vscode-dark .rm,html[theme=dark] .rm,[data-theme=dark] .rm'
 _LIGHT_BOOKS = '[data-jp-theme-light="true"] .rm,.vscode-light .rm,html[theme=light] .rm,[data-theme=light] .rm'
 
-_STYLE = '''
+STYLE = '''
 .rm{''' + _ON_LIGHT + '''}
 @media (prefers-color-scheme:dark){.rm{''' + _ON_DARK + '''}}
 ''' + _LIGHT_BOOKS + '{' + _ON_LIGHT + '}\n' + _DARK_BOOKS + '{' + _ON_DARK + '''}
@@ -65,7 +65,7 @@ _STYLE = '''
 .rm-rows .rm-lit>b{color:inherit}
 @media (max-width:600px){.rm-no{width:2.6em;padding-right:.6em;font-size:11px}.rm-skip{padding-left:3.2em}.rm-rows{margin-left:3.2em}}
 '''
-_PAGE_STYLE = '''
+PAGE_STYLE = '''
 :root{color-scheme:light dark}
 body{margin:2em auto;max-width:72em;padding:0 1em;color:#212529;background:#fff;font-family:system-ui,sans-serif}
 h1,h2{font-size:1.3em;overflow-wrap:anywhere}
@@ -77,7 +77,7 @@ a{color:#1864ab}
 @media (prefers-color-scheme:dark){body{color:#dee2e6;background:#16191d}a{color:#74c0fc}}
 '''
 # The row that is pointed at, or has the focus, is lit with its spans; arrows go from row to row, and open what is folded.
-_ROWS_SCRIPT = '''
+ROWS_SCRIPT = '''
 ['mouseover','focusin'].forEach(k=>document.addEventListener(k,e=>{const t=e.target.closest&&e.target.closest('[data-r]');
 if(k=='focusin'&&!t)return;document.querySelectorAll('.rm-lit').forEach(x=>x.classList.remove('rm-lit'));if(!t)return;const v=t.closest('.rm');
 t.dataset.r.split(' ').forEach(r=>v.querySelectorAll('[data-r~="'+r+'"]').forEach(x=>x.classList.add('rm-lit')))}));
@@ -356,7 +356,7 @@ def fragment(document: Document, names: Sequence[str], rows: Sequence[Row], *, o
     >>> '&lt;b&gt;' in shown, '<script' in shown
     (True, False)
     """
-    return (f'<style>{_STYLE}</style><div class="rm" lang="en" role="region" aria-label="rows over their document">'
+    return (f'<style>{STYLE}</style><div class="rm" lang="en" role="region" aria-label="rows over their document">'
             f'{section(document, names, rows, of, context, first)}</div>')
 
 
@@ -367,7 +367,7 @@ def page(sections: Iterable[Tuple[str, Document, Sequence[Row], bool]], names: S
     filter.
     """
     yield (f'<!doctype html>\n<html lang="en"><head><meta charset="utf-8"><meta name="viewport" content="width=device-width">'
-           f'<title>{escape(title)}</title><style>{_PAGE_STYLE}{_STYLE}</style></head><body>\n'
+           f'<title>{escape(title)}</title><style>{PAGE_STYLE}{STYLE}</style></head><body>\n'
            '<div class="rm-bar" role="search" hidden><button data-to="-1">Previous</button><button data-to="1">Next</button>'
            '<input type="search" aria-label="Lines that have this text" placeholder="Filter lines">'
            '<output aria-live="polite"></output><a href="#documents" hidden>Documents</a></div>\n<main>\n')
@@ -387,4 +387,4 @@ def page(sections: Iterable[Tuple[str, Document, Sequence[Row], bool]], names: S
     link = "document.querySelector('.rm-bar').hidden=document.querySelector('.rm-bar a').hidden=false;" if len(listed) > 1 else ''
     if link and not parts:
         link += "document.querySelectorAll('.rm-bar>:not(a)').forEach(x=>x.hidden=true);"
-    yield f'<script>{_ROWS_SCRIPT}{link}{parts}</script></body></html>\n'
+    yield f'<script>{ROWS_SCRIPT}{link}{parts}</script></body></html>\n'

@@ -4,7 +4,7 @@ import os
 import sys
 from unittest import mock
 
-from rematch import convert
+from rematch.to import convert
 
 
 class _Input(io.StringIO):

@@ -13,7 +13,7 @@ import unittest
 from unittest import mock
 
 import rematch
-from rematch import convert, packed, progress
+from rematch.to import convert, packed, progress
 from support import EXAMPLES, PYTHON, Folder, needs, needs_speed
 from commands import asked
 
@@ -82,7 +82,7 @@ class Tables(Convert):
 
     def test_too_long_for_one_run(self):
         path = self.file('d', b'ab\nab\nab\n' * 3)
-        with mock.patch('rematch.packed.MOST_BYTES', 10), mock.patch('rematch.pieces._USUAL', 4):
+        with mock.patch('rematch.to.packed.MOST_BYTES', 10), mock.patch('rematch.pieces._USUAL', 4):
             self.assertEqual(self.to('count', '-e', r'/!x{a}b\n!y{a}/', path), '8 d\n')
             self.assertEqual(self.to('csv', '-e', r'/!x{b}\n!y{a}/', path).split('\n')[2], 'd,2,4,5,b,6,7,a')
             self.assertEqual(asked('count', '-e', '/a/', '-', stdin=b'ba')[:2], (0, '1 -\n'))
@@ -213,9 +213,9 @@ class Commands(Folder):
             self.assertEqual(asked('count', '-e', '/!x{a}/', stdin=b'a')[2], '')
 
     def test_progress_on_a_terminal(self):
-        code = ('from rematch import progress; progress._FIRST = progress._EVERY = 0.01; import sys, time; import rematch.program as p;'
+        code = ('from rematch.to import progress; progress._FIRST = progress._EVERY = 0.01; import sys, time; import rematch.program as p;'
                 'real = p.Run._finish; p.Run._finish = lambda run, rest: (time.sleep(0.3), real(run, rest));'
-                'from rematch.convert import main; sys.exit(main(sys.argv[1:]))')
+                'from rematch.to.convert import main; sys.exit(main(sys.argv[1:]))')
         master, slave = pty.openpty()
         run = subprocess.run([sys.executable, '-c', code, 'csv', '-e', '/!x{a}/', self.file('d', b'a' * 90)], stdout=subprocess.PIPE,
                              stderr=slave, env=dict(os.environ, PYTHONPATH=PYTHON))

@@ -5,7 +5,8 @@ import re
 import unittest
 from unittest import mock
 
-from rematch import packed, pieces
+from rematch import pieces
+from rematch.to import packed
 from support import EXAMPLES, Folder, needs_speed
 from commands import asked, without
 

@@ -7,7 +7,7 @@ import re
 import unittest
 
 import rematch
-from rematch import expand
+from rematch.to import expand
 from support import DOCS, EXAMPLES, Folder
 from commands import asked
 from test_convert import in_a_process

@@ -4,7 +4,7 @@ import random
 import unittest
 
 import rematch
-from rematch import expand, mismatches
+from rematch.to import expand, mismatches
 from support import EXAMPLES, Folder, needs_speed
 from commands import asked, lines
 

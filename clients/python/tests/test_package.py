@@ -15,13 +15,13 @@ from support import PROGRAM, PYTHON
 from test_session import FAKE, serves
 
 
-LEFT = {'__main__'}  # modules without examples that run here
+LEFT = {'rematch.__main__'}  # modules without examples that run here
 if importlib.util.find_spec('pandas') is None:
-    LEFT.add('pandas')
+    LEFT.add('rematch.pandas')
 
 
 def modules():
-    return ['rematch'] + ['rematch.' + found.name for found in pkgutil.iter_modules(rematch.__path__) if found.name not in LEFT]
+    return ['rematch', *(found.name for found in pkgutil.walk_packages(rematch.__path__, 'rematch.') if found.name not in LEFT)]
 
 
 def load_tests(loader, tests, pattern):

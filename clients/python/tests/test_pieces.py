@@ -68,7 +68,7 @@ class Cuts(Folder):
             data = bytes(pick.choice(b'ab\n') for _ in range(pick.randrange(1, 40)))
             at, lines = pick.randrange(len(data) + 1), pick.randrange(4)
             with open(self.file('d', data), 'rb') as file:
-                back, on = pieces._lines_back(file, at, lines), pieces._lines_on(file, at, lines)
+                back, on = pieces.lines_back(file, at, lines), pieces._lines_on(file, at, lines)
             self.assertTrue(back == 0 or data[back - 1] == 10 and data.count(b'\n', back, at) in (lines, lines + 1), (data, at, lines, back))
             self.assertTrue(on == len(data) or data[on - 1] == 10 and data.count(b'\n', at, on) == lines + 1)
 

@@ -11,7 +11,7 @@ import urllib.request
 from unittest import mock
 
 import rematch
-from rematch import play
+from rematch.to import play
 from browser import Browser
 from support import CLIENTS, PROGRAM, Folder, children, needs, needs_speed
 from test_session import serves

@@ -10,7 +10,7 @@ import time
 import unittest
 
 import rematch
-from rematch import relay
+from rematch.to import relay
 from support import CLIENTS, PROGRAM, Folder, needs, needs_speed
 from test_session import FAKE  # sessions where the program has none
 

@@ -1,7 +1,7 @@
 """The sentence round a hit: kwic --sentence, and the columns left and right of a table."""
 import unittest
 
-from rematch import sentences
+from rematch.to import sentences
 from support import Folder
 from commands import asked, lines
 

@@ -6,7 +6,7 @@ import subprocess
 import unittest
 
 import rematch
-from rematch import sequences
+from rematch.to import sequences
 from support import IS_REFERENCE, Folder, needs
 
 PAIRS = {'A': 'T', 'C': 'G', 'G': 'C', 'T': 'A', 'N': 'N', 'R': 'Y', 'Y': 'R'}

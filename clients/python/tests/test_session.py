@@ -152,7 +152,7 @@ class Sessions:
     def test_longer_than_a_request(self):
         """A document is sent in parts where it does not fit one request, also in the middle of what JSON escapes."""
         document = 'a\x00é' * 400 + 'b'
-        with mock.patch.object(sessions, '_LONGEST', 600), mock.patch.object(sessions, '_PART', 50):
+        with mock.patch.object(sessions, 'LONGEST_REQUEST', 600), mock.patch.object(sessions, '_PART', 50):
             with self.server.open('/!x{b}/', document) as session:
                 self.assertEqual([(match.span('x'), match['x']) for match in session], [((1200, 1201), 'b')])
             with self.server.open('/!x{b}/', document.encode()) as session:

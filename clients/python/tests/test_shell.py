@@ -9,7 +9,7 @@ import sys
 import time
 import unittest
 
-from rematch.to_words import FORMS
+from rematch.to.words import FORMS
 from support import CLIENTS, DOCS, EXAMPLES, PROGRAM, ROOT, Folder, needs
 
 SHELL = os.path.join(CLIENTS, 'shell')

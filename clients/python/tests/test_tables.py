@@ -4,8 +4,8 @@ import io
 import random
 import unittest
 
-from rematch import tables
-from rematch.to_forms import Drawn
+from rematch.to import tables
+from rematch.to.forms import Drawn
 from support import Folder
 from commands import asked, lines, without
 

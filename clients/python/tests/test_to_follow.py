@@ -10,7 +10,7 @@ import unittest
 
 import rematch
 from rematch.pieces import reach
-from rematch.to_follow import Growing
+from rematch.to.follow import Growing
 from support import PYTHON, Folder, needs_speed
 from commands import asked
 

@@ -5,7 +5,7 @@ import unittest
 from unittest import mock
 
 import rematch
-from rematch import convert, to_jobs, to_small
+from rematch.to import convert, jobs as to_jobs, small as to_small
 from support import Folder, children, needs_speed
 from commands import asked
 

@@ -5,9 +5,9 @@ import subprocess
 import unittest
 
 import rematch
-from rematch import to_lines
+from rematch.to import lines as to_lines
 from rematch.documents import Document
-from rematch.packed import Given
+from rematch.to.packed import Given
 from support import Folder, needs
 from commands import asked, lines
 

@@ -3,7 +3,8 @@ import re
 import unittest
 
 import rematch
-from rematch import to_words, version
+from rematch import version
+from rematch.to import words as to_words
 from support import Folder
 from commands import asked
 

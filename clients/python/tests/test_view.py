@@ -8,7 +8,8 @@ import unittest
 from html.parser import HTMLParser
 
 import rematch
-from rematch import convert, view
+from rematch import view
+from rematch.to import convert
 from support import EXAMPLES, Folder, needs, needs_speed
 
 

@@ -4,7 +4,7 @@ import unittest
 from unittest import mock
 
 import rematch
-from rematch import sequences
+from rematch.to import sequences
 from rematch._reach import NoReach, length_of_printed
 from support import Folder
 from commands import asked

@@ -4,8 +4,8 @@ from __future__ import annotations
 import re
 from typing import Iterable, Iterator, List, NamedTuple, Optional, Tuple
 
-from .formula import Atom, atoms_of, parts_of
-from .match import Row
+from ..formula import Atom, atoms_of, parts_of
+from ..match import Row
 from .packed import Given
 from .tables import coloured, extent_of
 

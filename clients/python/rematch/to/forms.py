@@ -8,8 +8,8 @@ from typing import TYPE_CHECKING, Any, Dict, Iterable, Iterator, List, NoReturn,
 
 from .packed import Given
 from .tables import Context, Layout, Table, concordance, sorted_contexts
-from .to_jobs import Part
-from .to_lines import count_lines, shown_lines
+from .jobs import Part
+from .lines import count_lines, shown_lines
 
 if TYPE_CHECKING:
     from .convert import Command
@@ -242,10 +242,10 @@ class _Freq(Form):
         return ()
 
     def end(self) -> Iterable[str]:
-        from .tables import _cell, _shown
+        from .tables import cell_of, shown_text
         yield ','.join(['count', *self.names]) + '\n'
         for texts, count in islice(sorted(self.counts.items(), key=lambda item: (-item[1], item[0])), self.given.most):
-            yield ','.join([str(count), *(_cell(_shown(text), ',') for text in texts)]) + '\n'
+            yield ','.join([str(count), *(cell_of(shown_text(text), ',') for text in texts)]) + '\n'
 
 
 class _Places(Form):
@@ -253,7 +253,7 @@ class _Places(Form):
     takes_pieces = False
 
     def __init__(self, command: 'Command') -> None:
-        from ._reach import NoReach
+        from .._reach import NoReach
         from .sequences import has_anchor
         super().__init__(command)
         if has_anchor(self.query):

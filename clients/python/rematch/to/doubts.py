@@ -4,9 +4,9 @@ from __future__ import annotations
 import re
 from typing import List, Optional
 
-from .documents import packed_by
-from .formula import atoms_of
-from .query import Query
+from ..documents import packed_by
+from ..formula import atoms_of
+from ..query import Query
 
 __all__ = ['doubts_of', 'oddity_of']
 

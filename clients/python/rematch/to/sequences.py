@@ -13,11 +13,11 @@ from bisect import bisect_right
 from typing import Callable, Dict, Iterable, Iterator, List, NamedTuple, Optional, Sequence, TextIO, Tuple
 from urllib.parse import quote
 
-from .documents import MOST_BYTES
-from .faults import DocumentError
-from .match import Row
-from .query import Query
-from ._reach import NoReach, length_of_printed
+from ..documents import MOST_BYTES
+from ..faults import DocumentError
+from ..match import Row
+from ..query import Query
+from .._reach import NoReach, length_of_printed
 
 __all__ = ['GFF_HEAD', 'Record', 'Site', 'are_proteins', 'bed_lines', 'each_record', 'fasta_lines', 'frame_of', 'gff_lines',
            'has_anchor', 'has_records', 'in_order', 'once',
@@ -193,7 +193,7 @@ def sites(query: Query, data: bytes, *, both: bool = True, left_out: Optional[Ca
 
 def has_anchor(query: Query) -> bool:
     """Whether an anchor stands in the query, which would speak of all records together."""
-    from .formula import atoms_of, parts_of
+    from ..formula import atoms_of, parts_of
     return any(part.kind == 'anchor' for atom in atoms_of(query.printed.encode()) for part in parts_of(atom))
 
 

@@ -5,9 +5,9 @@ import os
 import sys
 from typing import Callable
 
-from . import library
-from .faults import RematchError
-from ._reach import NoReach
+from .. import library
+from ..faults import RematchError
+from .._reach import NoReach
 
 __all__ = ['REFUSED', 'line_of', 'run_told']
 

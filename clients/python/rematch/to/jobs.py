@@ -10,12 +10,12 @@ from collections import deque
 from io import StringIO
 from typing import Any, Callable, Deque, Iterator, List, NamedTuple, Optional, Sequence, Tuple
 
-from .faults import ProgramError, RematchError
-from .match import Row
+from ..faults import ProgramError, RematchError
+from ..match import Row
+from ..pieces import Piece, cuts, rows_of_piece
+from ..query import Query
+from .._reach import NoReach
 from .packed import Given, given_document
-from .pieces import Piece, cuts, rows_of_piece
-from .query import Query
-from ._reach import NoReach
 
 __all__ = ['Part', 'PieceOfDocument', 'done_in_order', 'parts_of_documents', 'read_aside', 'written_aside']
 
@@ -54,7 +54,7 @@ class PieceOfDocument(Given):
 
 def parts_of_documents(names: Sequence[str], jobs: int, lines: Optional[int]) -> Iterator[Part]:
     """The documents as pieces of work; where the query has a reach (``lines``) a long file is cut, so that all processes share it."""
-    from .documents import packed_by
+    from ..documents import packed_by
     for name in names:
         if lines is None or name == '-' or not os.path.isfile(name) or os.path.getsize(name) < 2 * _LEAST:
             yield Part(name)

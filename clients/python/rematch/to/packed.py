@@ -7,10 +7,10 @@ import sys
 import tempfile
 from typing import IO, Any, Iterator, Optional, Union
 
-from .documents import MOST_BYTES, Document, _unreadable, packed_by
-from .match import Row
-from .pieces import NoReach, reach, rows_in_pieces
-from .query import Query
+from ..documents import MOST_BYTES, Document, unreadable, packed_by
+from ..match import Row
+from ..pieces import NoReach, reach, rows_in_pieces
+from ..query import Query
 
 __all__ = ['Given', 'given_document']
 
@@ -65,7 +65,7 @@ class Given:
 
 
 def _too_long(name: str) -> Exception:
-    from .faults import DocumentError
+    from ..faults import DocumentError
     fault = DocumentError(f'document longer than {MOST_BYTES} bytes', 6)
     fault.filename = name
     return fault
@@ -98,7 +98,7 @@ def given_document(name: str) -> Given:
         return _read(name, file)
     except Exception as fault:
         if isinstance(fault, (OSError, EOFError)) or type(fault).__name__ in ('error', 'LZMAError'):
-            raise _unreadable(name, fault) from fault
+            raise unreadable(name, fault) from fault
         raise
 
 

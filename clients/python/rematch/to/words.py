@@ -225,7 +225,7 @@ def _refuse_numbers(parser: _Parser, given: Words) -> None:
 
 
 def _tell_version() -> NoReturn:
-    from .version import version_text
+    from ..version import version_text
     print(version_text())
     raise SystemExit(0)
 

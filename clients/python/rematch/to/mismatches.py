@@ -5,7 +5,7 @@ import re
 from functools import lru_cache
 from typing import List, NamedTuple, Sequence
 
-from .formula import items_of
+from ..formula import items_of
 
 __all__ = ['MOST_UNITS', 'Unit', 'units_of', 'units_written', 'with_mismatches']
 

@@ -15,9 +15,9 @@ import re
 from bisect import bisect_right
 from typing import Callable, Dict, List, NamedTuple, Optional, Sequence, Tuple, Union
 
-from .advice import Advice
-from .faults import QueryError
-from .formula import Atom, Part, items_of, letter_of, parts_of
+from ..advice import Advice
+from ..faults import QueryError
+from ..formula import Atom, Part, items_of, letter_of, parts_of
 from .mismatches import MOST_UNITS, units_of, units_written, with_mismatches
 
 __all__ = ['Expanded', 'expanded']

@@ -11,11 +11,11 @@ import sys
 import time
 from typing import TYPE_CHECKING, IO, Iterator, List, Optional, Set
 
-from .documents import Document, _unreadable, packed_by
-from .match import Row
+from ..documents import Document, unreadable, packed_by
+from ..match import Row
+from ..pieces import reach
+from ..query import Query
 from .packed import Given
-from .pieces import reach
-from .query import Query
 
 if TYPE_CHECKING:
     from .convert import Command
@@ -126,7 +126,7 @@ class _File:
         try:
             return open(self.name, 'rb', buffering=0)
         except OSError as fault:
-            raise _unreadable(self.name, fault) from fault
+            raise unreadable(self.name, fault) from fault
 
     def read(self) -> Optional[bytes]:
         """What has come since; None at the end of standard input, or of a pipe."""
@@ -211,8 +211,8 @@ def _doubts(file: _File, query: Query) -> List[str]:
 def follow(command: 'Command') -> None:
     """Writes the rows of a file as they come, as lines of a table."""
     from .tables import Table
-    from .to_forms import layout_of, refuse
-    from .to_small import SmallDocuments
+    from .forms import layout_of, refuse
+    from .small import SmallDocuments
     if len(command.names) != 1:
         refuse('follow takes one file: start it once for each')
     if command.given.var is not None and command.given.context is None:

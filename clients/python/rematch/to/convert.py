@@ -7,21 +7,21 @@ from contextlib import contextmanager
 from itertools import chain, islice
 from typing import Any, Callable, Dict, Iterable, Iterator, List, Optional, TextIO, Tuple
 
-from .advice import Advice, advise, is_of_rows
+from ..advice import Advice, advise, is_of_rows
+from ..documents import Document
+from ..faults import DocumentError, OutOfMemory, QueryError, RematchError, SizeError
+from ..match import Row
+from ..pieces import NoReach, reach
+from ..query import Query
 from .command import line_of, run_told
-from .documents import Document
 from .expand import Expanded, expanded
-from .faults import DocumentError, OutOfMemory, QueryError, RematchError, SizeError
 from .doubts import doubts_of, oddity_of
-from .match import Row
 from .nucleotides import small_letter, with_iupac
 from .packed import Given
-from .pieces import NoReach, reach
 from .progress import Progress
-from .query import Query
-from .to_forms import DOCUMENT_FORMS, Form, refuse
-from .to_jobs import Part, done_in_order, parts_of_documents, read_aside, written_aside
-from .to_words import Words, read_words
+from .forms import DOCUMENT_FORMS, Form, refuse
+from .jobs import Part, done_in_order, parts_of_documents, read_aside, written_aside
+from .words import Words, read_words
 
 __all__ = ['Command', 'main']
 
@@ -64,14 +64,14 @@ class Command:
         text = self.read_text()
         make = Query
         if len(self.names) >= _MANY and not self.given.filter and self.given.max_table is None and self.given.form not in _WHOLE:
-            from .to_small import SmallDocuments
+            from .small import SmallDocuments
             make = SmallDocuments
         try:
             query = make(text, **words)
         except QueryError as fault:
             raise self.expansion.fault(fault) from None
         if self.asks_for_lines() and not query.variables:
-            from .to_lines import captured
+            from .lines import captured
             made = captured(text)
             if made is None:
                 refuse('the query has no capture, so no row has a place: put !name{..} around what the lines have')
@@ -243,7 +243,7 @@ class Command:
                     write_annotations(self.query, document, self.out)
 
     def html(self) -> None:
-        from .view import page
+        from ..view import page
         most = self.given.most_rows or 5000
 
         def sections() -> Iterator[Tuple[str, Document, List[Row], bool]]:
@@ -267,7 +267,7 @@ class Command:
             self.out.writelines(page(chain(() if first is None else (first,), found), self.query.variables, ', '.join(self.names)))
 
     def follow(self) -> None:
-        from .to_follow import follow
+        from .follow import follow
         follow(self)
 
     def check(self) -> None:

@@ -13,14 +13,14 @@ import threading
 from http.server import BaseHTTPRequestHandler, ThreadingHTTPServer
 from typing import Any, Dict, List, Optional, Tuple
 
+from ..documents import Document
+from ..faults import DocumentError, ProgramError, QueryError, RematchError
+from ..match import Row
+from ..session import Server, Session, SessionError
+from ..view import section
 from .command import run_told
-from .documents import Document
 from .expand import expanded
-from .faults import DocumentError, ProgramError, QueryError, RematchError
-from .match import Row
 from .play_page import page
-from .session import Server, Session, SessionError
-from .view import section
 
 __all__ = ['Player', 'main', 'serve']
 

@@ -5,11 +5,11 @@ import os
 from itertools import islice
 from typing import Any, Iterator, Optional, Union
 
-from .documents import Document, Source, open_document
-from .faults import OutOfMemory, ProgramError, SizeError
-from .match import Row
-from .query import Query
-from .session import Served, Server, SessionError
+from ..documents import Document, Source, open_document
+from ..faults import OutOfMemory, ProgramError, SizeError
+from ..match import Row
+from ..query import Query
+from ..session import Served, Server, SessionError
 
 __all__ = ['SmallDocuments']
 

@@ -3,7 +3,7 @@ from __future__ import annotations
 
 from html import escape
 
-from .view import _PAGE_STYLE, _ROWS_SCRIPT, _STYLE
+from ..view import PAGE_STYLE, ROWS_SCRIPT, STYLE
 
 __all__ = ['page']
 
@@ -60,7 +60,7 @@ def page(query: str, document: str, name: str, nonce: str) -> str:
     title = f'rematch: {escape(name)}' if name else 'rematch'
     return f'''<!doctype html>
 <html lang="en"><head><meta charset="utf-8"><meta name="viewport" content="width=device-width"><title>{title}</title>
-<style>{_PAGE_STYLE}{_STYLE}{_OWN}</style></head><body><main>
+<style>{PAGE_STYLE}{STYLE}{_OWN}</style></head><body><main>
 <h1>{title}</h1>
 <div class="pl-in">
 <div><label for="query">Query</label><textarea id="query" lang="" spellcheck="false" autocapitalize="off" autocomplete="off" autofocus
@@ -73,5 +73,5 @@ def page(query: str, document: str, name: str, nonce: str) -> str:
 <div class="pl-bar"><button id="begin" disabled>First</button><button id="back" disabled>Previous</button><button id="on" disabled>Next</button>
 <output id="say" aria-live="polite"></output></div>
 <div id="rows" class="rm" role="region" aria-label="rows over their document"></div>
-</main><script nonce="{nonce}">{_ROWS_SCRIPT}{_SCRIPT}</script></body></html>
+</main><script nonce="{nonce}">{ROWS_SCRIPT}{_SCRIPT}</script></body></html>
 '''

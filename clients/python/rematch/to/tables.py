@@ -8,10 +8,10 @@ from bisect import bisect_right
 from itertools import accumulate
 from typing import Any, Callable, Dict, Iterable, Iterator, List, NamedTuple, Optional, Sequence, TextIO, Tuple
 
-from .documents import _REST, Document
-from .match import Row
+from ..documents import REST, Document
+from ..match import Row
+from ..query import Query
 from .packed import Given
-from .query import Query
 from .sentences import sentence_round
 
 __all__ = ['Characters', 'Context', 'Layout', 'Table', 'concordance', 'extent_of', 'line_numbers', 'sorted_contexts',
@@ -33,7 +33,7 @@ def line_numbers(data: bytes) -> Callable[[int], int]:
     return lambda place: bisect_right(starts, place)
 
 
-def _shown(part: bytes) -> str:
+def shown_text(part: bytes) -> str:
     """The text of bytes as it is; bytes that are no text as \\xhh."""
     return part.decode('utf-8', 'backslashreplace')
 
@@ -48,7 +48,7 @@ _NEEDS_QUOTES = re.compile('["\n\r]|^ | $')
 _BLOCK = 4096  # bytes of which the characters are counted together
 
 
-def _cell(text: str, delimiter: str) -> str:
+def cell_of(text: str, delimiter: str) -> str:
     if delimiter in text or _NEEDS_QUOTES.search(text):
         return '"' + text.replace('"', '""') + '"'
     return text
@@ -63,12 +63,12 @@ class Characters:
 
     def __init__(self, data: bytes) -> None:
         self._data = data
-        sizes = (len(data[start:start + _BLOCK].translate(None, _REST)) for start in range(0, len(data), _BLOCK))
+        sizes = (len(data[start:start + _BLOCK].translate(None, REST)) for start in range(0, len(data), _BLOCK))
         self._before = array('q', accumulate(sizes, initial=0))
 
     def __getitem__(self, at: int) -> int:
         block = at // _BLOCK
-        return self._before[block] + len(self._data[block * _BLOCK:at].translate(None, _REST))
+        return self._before[block] + len(self._data[block * _BLOCK:at].translate(None, REST))
 
 
 class Layout(NamedTuple):
@@ -131,14 +131,14 @@ class Table:
     def _usual(self, given: Given, rows: Iterable[Row], first_line: int, base: int) -> Iterator[str]:
         data, delimiter = given.data, self._layout.delimiter
         number = line_numbers(data)  # type: ignore[arg-type]
-        name = _cell(given.name, delimiter)
+        name = cell_of(given.name, delimiter)
         for row in rows:
             first = _first(row)
             cells = [name, '' if first is None else str(number(first) + first_line - 1)]
             places = iter(row)
             for start, end in zip(places, places):
                 cells += ('', '', '') if start < 0 else (str(start + base), str(end + base),
-                                                         _cell(_shown(data[start:end]), delimiter))
+                                                         cell_of(shown_text(data[start:end]), delimiter))
             yield delimiter.join(cells) + '\n'
 
     def _chosen(self, given: Given, rows: Iterable[Row], first_line: int, base: int) -> Iterator[str]:
@@ -154,15 +154,15 @@ class Table:
         """What makes the cells of a column."""
         data, delimiter = given.data, self._layout.delimiter
         if name == 'document':
-            shown = _cell(given.name, delimiter)
+            shown = cell_of(given.name, delimiter)
             return lambda row: shown
         if name == 'line':
             return lambda row: '' if _first(row) is None else str(number(_first(row)))  # type: ignore[arg-type]
         if name in self._query.variables:
             at = 2 * self._query.variables.index(name)
-            return lambda row: '' if row[at] < 0 else _cell(_shown(data[row[at]:row[at + 1]]), delimiter)
+            return lambda row: '' if row[at] < 0 else cell_of(shown_text(data[row[at]:row[at + 1]]), delimiter)
         if name in ('left', 'right'):
-            return lambda row: _cell(self._around(name, data, row), delimiter)  # type: ignore[arg-type]
+            return lambda row: cell_of(self._around(name, data, row), delimiter)  # type: ignore[arg-type]
         variable, _, side = name.rpartition('_')
         place = 2 * self._query.variables.index(variable) + (side == 'end')
         return lambda row: '' if row[place] < 0 else str(told[row[place]])
@@ -271,7 +271,7 @@ def concordance(query: Query, given: Given, rows: Iterable[Row], name: str, colu
         else:
             left = data[max(0, start - 4 * columns):start].decode('utf-8', 'ignore')
             right = data[end:end + 4 * columns].decode('utf-8', 'ignore')
-        yield Context(given.name, number(start), _flat(left), _flat(_shown(data[start:end])), _flat(right))
+        yield Context(given.name, number(start), _flat(left), _flat(shown_text(data[start:end])), _flat(right))
 
 
 def sorted_contexts(found: Iterable[Context], by: Optional[str]) -> Iterable[Context]:

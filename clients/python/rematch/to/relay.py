@@ -12,10 +12,10 @@ import sys
 from threading import Timer
 from typing import IO, Any, Dict, Iterator, List, Optional, Tuple
 
+from ..faults import ProgramNotFound, error_of
+from ..program import find_program
+from ..session import LONGEST_REQUEST, refusal
 from .command import run_told
-from .faults import ProgramNotFound, error_of
-from .program import find_program
-from .session import _LONGEST, _refusal
 
 __all__ = ['Relay', 'main', 'requests_of']
 
@@ -32,7 +32,7 @@ class _Line(bytes):
 def requests_of(file: IO[bytes]) -> Iterator[_Line]:
     """The lines of requests, of which none is held past the most that a request has."""
     while True:
-        read = file.readline(_LONGEST + 2)
+        read = file.readline(LONGEST_REQUEST + 2)
         if not read:
             return
         line = _Line(read[:-1] if read.endswith(b'\n') else read)
@@ -46,8 +46,8 @@ def requests_of(file: IO[bytes]) -> Iterator[_Line]:
 def _checked(line: _Line) -> Tuple[Optional[int], Optional[str]]:
     """The number of a line, where it can be read, and why it is no request; None where it is one."""
     number = next((int(found[1]) for found in reversed(list(_ID.finditer(line))) if int(found[1]) < 1 << 32), None)
-    if line.length > _LONGEST:
-        return number, (f'a request has at most {_LONGEST} bytes, and this one has {line.length}: open a part of the document, and let it '
+    if line.length > LONGEST_REQUEST:
+        return number, (f'a request has at most {LONGEST_REQUEST} bytes, and this one has {line.length}: open a part of the document, and let it '
                         'grow by the rest')
     try:
         request = json.loads(line.decode('utf-8'))
@@ -59,7 +59,7 @@ def _checked(line: _Line) -> Tuple[Optional[int], Optional[str]]:
         return number, 'it is too deep'
     if isinstance(request, dict) and type(request.get('id')) is int and 0 <= request['id'] < 1 << 32:
         number = request['id']
-    return number, _refusal(request)
+    return number, refusal(request)
 
 
 class Relay:
@@ -167,7 +167,7 @@ def main(words: Optional[List[str]] = None) -> int:
 
     def run() -> None:
         if given.version:
-            from .version import version_text
+            from ..version import version_text
             print(version_text())
             return
         relay = Relay(seconds=given.seconds)

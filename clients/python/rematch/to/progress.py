@@ -6,7 +6,7 @@ import threading
 import time
 from typing import Any, Iterable, Iterator, Optional, TypeVar
 
-from .documents import Document
+from ..documents import Document
 
 __all__ = ['Progress']
 

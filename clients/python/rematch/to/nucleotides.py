@@ -4,8 +4,8 @@ from __future__ import annotations
 import re
 from typing import FrozenSet, Iterator, List, NamedTuple, Optional
 
-from .faults import QueryError
-from .formula import Atom, Item, Part, items_of, letter_of, parts_of
+from ..faults import QueryError
+from ..formula import Atom, Item, Part, items_of, letter_of, parts_of
 
 __all__ = ['Small', 'open_letters', 'small_letter', 'with_iupac']
 
