@@ -3,7 +3,7 @@
 The library for C is inside too, as `rematch/bin/librematch.so.1`, which queries are answered by: the one that REMATCH_LIBRARY names,
 which may be `none`, else the released one, where it runs here. So `pip install clients/python` works without a network. The program is the one that the variable REMATCH names; else the one
 built in this checkout, where it is newer than the release; else the released one, where it runs here. The wheel has it as
-`rematch/bin/rematch`, which the package looks for first, and as the command `rematch`.
+`rematch/bin/rematch`, which the package looks for first, and which the command `rematch` starts.
 """
 import base64
 import gzip
@@ -89,7 +89,7 @@ def _entries(program, library, base):
                 yield folder + '/' + name, _read(HERE, folder, name), 0o644
     if program is not None:
         yield 'rematch/bin/rematch', program, 0o755
-        yield base + '.data/scripts/rematch', program, 0o755
+        yield base + '.data/scripts/rematch', _read(ROOT, 'clients', 'shell', 'command'), 0o755
     if library is not None:
         yield 'rematch/bin/librematch.so.1', library, 0o755
     lines = ['Metadata-Version: 2.1', 'Name: ' + NAME.replace('_', '-'), 'Version: ' + _version(), 'Requires-Python: >=3.8',

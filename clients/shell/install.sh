@@ -38,7 +38,9 @@ case $prefix in /*) ;; *) prefix=$PWD/$prefix ;; esac
 bin=$prefix/bin
 share=$prefix/share
 bash_file=$share/bash-completion/completions/rematch
+core=$prefix/libexec/rematch
 files="$bin/rematch
+$core/rematch
 $bin/rematch-to
 $bin/rematch-cut
 $bin/rematch-piece
@@ -62,7 +64,8 @@ if [ "$action" = uninstall ]; then
         fi
     done
     for folder in share/fish/vendor_completions.d share/fish share/zsh/site-functions share/zsh \
-        share/bash-completion/completions share/bash-completion share/man/man1 share/man share bin; do
+        share/bash-completion/completions share/bash-completion share/man/man1 share/man share bin \
+        libexec/rematch libexec; do
         rmdir "$prefix/$folder" 2>/dev/null || true
     done
     exit 0
@@ -86,6 +89,10 @@ if [ ! -x "$program" ] || [ ! -f "$program" ]; then
     echo "install.sh: there is no built program $program; ./rematch in the checkout builds it" >&2
     exit 1
 fi
+if ! "$program" -e '/!it{is here}/' --explain </dev/null >/dev/null 2>&1; then
+    echo "install.sh: $program does not run here: the released program needs Linux on x86_64 with glibc 2.34 or later" >&2
+    exit 1
+fi
 
 # A copy stands beside the file that it replaces first, so that a program that runs is not cut off.
 put() {
@@ -102,7 +109,8 @@ link() {
     echo "$2: $3"
 }
 
-put "$program" "$bin/rematch" 755 "the program"
+put "$program" "$core/rematch" 755 "the program"
+put "$here/command" "$bin/rematch" 755 "the command that runs it"
 put "$root/man/rematch.1" "$share/man/man1/rematch.1" 644 "the page of the manual"
 put "$here/rematch.bash" "$bash_file" 644 "completion for bash"
 for name in rematch-to rematch-cut rematch-piece; do
@@ -114,12 +122,12 @@ for name in rematch-to rematch-piece; do
     link rematch.fish "$share/fish/vendor_completions.d/$name.fish" "the same"
 done
 
-if command -v python3 >/dev/null 2>&1 && python3 -c 'import sys, zipapp; sys.exit(sys.version_info < (3, 8))' 2>/dev/null; then
+if command -v python3 >/dev/null 2>&1 && python3 -I -c 'import sys, zipapp; sys.exit(sys.version_info < (3, 8))' 2>/dev/null; then
     mkdir "$made/app" "$made/app/rematch" "$made/app/rematch/to"
     cp "$clients"/python/rematch/*.py "$clients"/python/rematch/py.typed "$made/app/rematch"
     cp "$clients"/python/rematch/to/*.py "$made/app/rematch/to"
     cp "$clients/python/rematch/__main__.py" "$made/app/__main__.py"
-    python3 -m zipapp -c -p '/usr/bin/env python3' -o "$made/rematch-to" "$made/app"
+    python3 -I -m zipapp -c -p '/usr/bin/env python3' -o "$made/rematch-to" "$made/app"
     put "$made/rematch-to" "$bin/rematch-to" 755 \
         "rows as tables, concordances and pages; also the Python package (PYTHONPATH=$bin/rematch-to)"
     link rematch-to "$bin/rematch-cut" "pieces of a document"

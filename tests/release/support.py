@@ -79,7 +79,7 @@ class Tree:
             self.put('crates/%s/src/lib.rt' % name, 'code of %s\n' % name)
         self.put('crates.txt', CRATES)
         self.put('.gitignore', 'out/\n*.log\n__pycache__/\n')
-        self.copy('rematch', 'release/build', 'release/update', 'release/verify', 'release/released.py', 'release/libraries.py')
+        self.copy('rematch', 'clients/shell/command', 'release/build', 'release/update', 'release/verify', 'release/released.py', 'release/libraries.py')
         self.rt = self.made('with rt')
         self.script(os.path.join(self.rt, 'rt'), RT)
         self.tools = self.made('tools')
@@ -162,6 +162,19 @@ class Tree:
         self.script(program, text)
         want(self.call('release/update', '--program', program)[0], 0)
         self.commit()
+
+
+def on_a_terminal(words, **more):
+    """The status of a command, and what it writes to a terminal as its standard error."""
+    ours, theirs = os.openpty()
+    done = subprocess.run(words, stdin=subprocess.DEVNULL, stdout=subprocess.DEVNULL, stderr=theirs, timeout=300, **more)
+    os.write(theirs, b'.')
+    read = ''
+    while not read.endswith('.'):
+        read += os.read(ours, 4096).decode()
+    os.close(ours)
+    os.close(theirs)
+    return done.returncode, read[:-1]
 
 
 def later():

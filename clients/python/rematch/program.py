@@ -20,21 +20,40 @@ def _is_program(path: str) -> bool:
 
 
 def _beside() -> Iterator[str]:
-    """Where the program may stand beside this package, or beside the file that holds it; then the checkout's."""
+    """Where the program may be beside this package, or beside the file that holds it."""
     yield os.path.join(_HERE, 'bin', 'rematch')
     above = os.path.dirname(_HERE)
     if os.path.isfile(above):  # this package is in a zip file
-        yield os.path.join(os.path.dirname(os.path.realpath(above)), 'rematch')
-    yield os.path.join(above, '..', '..', 'crates', 'rematch', 'out', 'rematch')
-    yield os.path.join(above, '..', '..', 'release', 'out', 'rematch')  # where ./rematch unpacks the released one
+        folder = os.path.dirname(os.path.realpath(above))
+        yield os.path.join(os.path.dirname(folder), 'libexec', 'rematch', 'rematch')
+        yield os.path.join(folder, 'rematch')
+
+
+def _of_checkout(root: str) -> str:
+    """The program of this checkout. Where none is unpacked, or the release is newer, the script ``rematch`` unpacks it."""
+    built, unpacked = (os.path.join(root, *folders, 'out', 'rematch') for folders in (('crates', 'rematch'), ('release',)))
+    script, sources, stamp = (os.path.join(root, *names) for names in (('rematch',), ('release', 'SOURCES'), ('release', 'out', 'checked_at')))
+    if _is_program(built):
+        return built
+    if not os.path.isfile(script) or not os.path.isfile(sources):
+        raise ProgramNotFound('not in a checkout')
+    if _is_program(unpacked) and os.path.isfile(stamp) and os.stat(stamp).st_mtime >= os.stat(sources).st_mtime:
+        return unpacked
+    environment = {key: value for key, value in os.environ.items() if key != 'REMATCH_BUILD'}
+    done = subprocess.run([script], env={**environment, 'REMATCH_WHERE': '1'}, stdin=subprocess.DEVNULL,
+                          stdout=subprocess.PIPE, stderr=subprocess.PIPE)
+    found = os.fsdecode(done.stdout.rstrip(b'\n'))
+    if done.returncode or not _is_program(found):
+        raise ProgramNotFound(done.stderr.decode('utf-8', 'replace').strip().rpartition('\n')[2])
+    return found
 
 
 def find_program() -> str:
     """The path of the program rematch.
 
     It is the one that the variable REMATCH of the environment names. Else it is one beside this package, or beside the
-    zip file that holds it. Else it is that of the checkout that this package is in, or else the first of the path. Where
-    there is none, or REMATCH names none, it raises `ProgramNotFound`.
+    zip file that holds it. Else it is that of the checkout that this package is in, which is unpacked where it is not
+    yet, or else the first of the path. Where there is none, or REMATCH names none, it raises `ProgramNotFound`.
 
     >>> import os
     >>> os.access(find_program(), os.X_OK)
@@ -49,10 +68,14 @@ def find_program() -> str:
     for path in _beside():
         if _is_program(path):
             return os.path.normpath(path)
+    try:
+        return _of_checkout(os.path.normpath(os.path.join(_HERE, '..', '..', '..')))
+    except ProgramNotFound as fault:
+        reason = str(fault)
     found = which('rematch')
     if found is None:
-        raise ProgramNotFound('there is no program rematch: not named by REMATCH, not beside this package, not in its '
-                              'checkout (./rematch builds it there), not on the path')
+        raise ProgramNotFound(f'there is no program rematch: not named by REMATCH, not beside this package, not on the path; {reason}; '
+                              'the released one needs Linux on x86_64 with glibc 2.34 or later')
     return found
 
 

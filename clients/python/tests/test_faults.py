@@ -175,7 +175,8 @@ class Programs(Folder):
         with self.assertRaisesRegex(rematch.ProgramNotFound, 'cannot be run: Permission'):
             rematch.Query('/a/', program=self.file('plain'))
 
-    def test_where_it_is_looked_for(self):
+    @mock.patch('rematch.program._of_checkout', side_effect=rematch.ProgramNotFound('not in a checkout'))
+    def test_where_it_is_looked_for(self, _):
         here, there = self.script('rematch', '#!/bin/sh\n'), self.file('plain')
         with mock.patch.dict(os.environ, REMATCH=here):
             self.assertEqual(rematch.find_program(), here)

@@ -6,6 +6,7 @@ import signal
 import socket
 import subprocess
 import sys
+import textwrap
 import time
 import unittest
 
@@ -137,11 +138,11 @@ class OnASocket(Folder):
             return [json.loads(replies.readline()) for _ in requests]
 
     def test_as_systemd_begins_it(self):
-        command = os.path.basename(re.search('^    ExecStart=(.*)$', self.page, re.M)[1])
+        command, *words = re.search('^    ExecStart=(.*)$', self.page, re.M)[1].split()
         for part in ('Accept=yes', 'StandardInput=socket'):
             self.assertIn('    %s\n' % part, self.page)
         ours, theirs = socket.socketpair()
-        with ours, subprocess.Popen([command], stdin=theirs, stdout=theirs, stderr=subprocess.PIPE, env=self.environment) as run:
+        with ours, subprocess.Popen([os.path.basename(command), *words], stdin=theirs, stdout=theirs, stderr=subprocess.PIPE, env=self.environment) as run:
             theirs.close()
             replies = self.asked(ours, {'op': 'open', 'id': 1, 'query': '/!x{a}/', 'doc': 'a'}, {'op': 'next', 'id': 1, 'n': 0}, {'op': 'next', 'id': 1, 'n': 1})
             self.assertEqual([reply.get('error') for reply in replies], [None, 'request', None])
@@ -170,6 +171,42 @@ class OnASocket(Folder):
                     connection.close()
             finally:
                 os.killpg(run.pid, signal.SIGTERM)
+
+    @needs('socat')
+    def test_socat_with_clients_that_close_their_side(self):
+        """They get their replies, also where the service starts slowly."""
+        path = os.path.join(self.folder, 's')
+        words = re.search('^    (socat .*)$', self.page, re.M)[1].replace('/run/rematch.sock', path).split()
+        self.script('rematch-serve', '#!/bin/sh\nsleep 1.5\nexec %s %s\n' % (sys.executable, os.path.join(CLIENTS, 'rematch-serve')))
+        environment = dict(self.environment, PATH=os.pathsep.join([self.folder, self.environment['PATH']]))
+        with subprocess.Popen(words, env=environment, start_new_session=True, stderr=subprocess.DEVNULL) as run:
+            try:
+                ends = time.monotonic() + 60
+                while not os.path.exists(path) and time.monotonic() < ends:
+                    time.sleep(0.01)
+                self.assertEqual(os.stat(path).st_mode & 0o777, 0o660)
+                clients = [socket.socket(socket.AF_UNIX) for _ in range(6)]
+                for client in clients:
+                    client.connect(path)
+                    client.sendall(b'{"op":"close","id":1}\n')
+                    client.shutdown(socket.SHUT_WR)
+                self.assertEqual([client.recv(100) for client in clients], [b'{"error":"not open","id":1}\n'] * 6)
+                for client in clients:
+                    client.close()
+            finally:
+                os.killpg(run.pid, signal.SIGTERM)
+
+    @needs('systemctl')
+    def test_the_socket_can_be_enabled(self):
+        """Systemd takes the two units of the page."""
+        units = os.path.join(self.folder, 'etc', 'systemd', 'system')
+        os.makedirs(units)
+        for name in ('rematch.socket', 'rematch@.service'):
+            text = re.search(r'`%s`:\n\n((?:    .*\n|\n)+)' % re.escape(name), self.page)[1]
+            self.file(os.path.join(units, name), textwrap.dedent(text))
+        done = subprocess.run(['systemctl', '--root=' + self.folder, 'enable', 'rematch.socket'], stdout=subprocess.PIPE, stderr=subprocess.STDOUT)
+        wanted = os.path.join(units, 'sockets.target.wants', 'rematch.socket')
+        self.assertEqual((done.returncode, os.path.lexists(wanted)), (0, True), done.stdout)
 
 
 if __name__ == '__main__':

@@ -124,7 +124,9 @@ class Launcher(Folder):
         out = os.path.join(self.folder, 'crates', 'rematch', 'out')
         os.makedirs(out, exist_ok=True)
         os.makedirs(os.path.join(self.folder, '.git'), exist_ok=True)
-        shutil.copy(os.path.join(ROOT, 'rematch'), self.folder)
+        os.makedirs(os.path.join(self.folder, 'clients', 'shell'), exist_ok=True)
+        for name in ('rematch', 'clients/shell/command'):
+            shutil.copy(os.path.join(ROOT, name), os.path.join(self.folder, name))
         self.file('.git/index')
         self.script('crates/rematch/out/rematch', '#!/bin/sh\nexec %s "$@"\n' % PROGRAM)
         self.file('crates/rematch/out/built_at')
@@ -175,7 +177,7 @@ class Install(Folder):
             self.assertEqual(run(words, env=environment, cwd='/').stdout, out)
         code = 'import rematch; print(rematch.find_program(), rematch.Query("/!x{a}/").count(b"aa"), rematch.__file__)'
         shown = run([sys.executable, '-c', code], env=dict(environment, PYTHONPATH=os.path.join(prefix, 'bin', 'rematch-to')), cwd='/')
-        self.assertEqual(shown.stdout, '{0}/bin/rematch 2 {0}/bin/rematch-to/rematch/__init__.py\n'.format(prefix))
+        self.assertEqual(shown.stdout, '{0}/libexec/rematch/rematch 2 {0}/bin/rematch-to/rematch/__init__.py\n'.format(prefix))
         # Once more over itself, and away again.
         self.assertEqual(self.install().returncode, 0)
         gone = self.install('--uninstall')
