@@ -1,8 +1,8 @@
 #!/usr/bin/env python3
 """Runs a whole gate and prints what each crate took of it.
 
-    bench/gate_table.py [--log FILE] [COMMAND ..]
-    bench/gate_table.py --read FILE
+    bench/gate_table.py [--log FILE] [--keep] [COMMAND ..]
+    bench/gate_table.py --read FILE [--keep]
 
 COMMAND is `rt ci --anew` where none is given; it is run at the top of the repository. What it says is
 passed on, each line behind the seconds since the start, and written to FILE too. At the end a table tells
@@ -13,6 +13,8 @@ refused, or say little.
 `rt ci` tells no times. When a line came this script looks up; what a job took it reads from /proc, of the
 processes that check, build and run a crate, once a second, so a job's last second may be missing. The
 first check of an edit's crate, with which the others begin, counts with the edits.
+
+With --keep bench/measured/gate.tsv is written too, from which docs/make makes the tables of docs/PROVING.md.
 
 With --read the table is made from FILE, as an earlier run wrote it; a plain output of `rt ci` is taken
 too, of which the numbers of edits alone are known.
@@ -27,7 +29,11 @@ import sys
 import threading
 import time
 
+sys.dont_write_bytecode = True
 ROOT = os.path.dirname(os.path.dirname(os.path.abspath(__file__)))
+sys.path.insert(0, os.path.join(ROOT, 'bench'))
+import measured  # noqa: E402
+
 TICKS = os.sysconf('SC_CLK_TCK')
 KINDS = ['proof', 'tests', 'edits']
 STAMPED = re.compile(r'\s*([0-9]+\.[0-9]) (.*)')
@@ -190,6 +196,12 @@ class Gate:
         for text in self.odd:
             print('odd: %s' % text)
 
+    def keep(self):
+        """Writes the minutes by crate, for docs/make."""
+        rows = [[name] + [self.part(name, kind) for kind in KINDS] for name in self.crates]
+        measured.keep('gate', ['Crate', 'Proof', 'Tests', 'Edits'], rows, how='bench/gate_table.py --keep',
+                      what='minutes of one processor that each crate takes of a gate from nothing')
+
     def part(self, name, kind):
         return minutes(self.took.get((name, kind)))
 
@@ -202,18 +214,25 @@ def main():
     parser = argparse.ArgumentParser(description='Runs a whole gate and prints what each crate took of it.')
     parser.add_argument('--log', metavar='FILE')
     parser.add_argument('--read', metavar='FILE')
+    parser.add_argument('--keep', action='store_true', help='write bench/measured/gate.tsv')
     parser.add_argument('command', nargs=argparse.REMAINDER)
     given = parser.parse_args()
     if given.read:
         with open(given.read, errors='replace') as it:
-            Gate(it.read().split('\n')).print_table()
+            finish(Gate(it.read().split('\n')), given)
         return 0
     log = open(given.log, 'w') if given.log else None
     command = [it for it in given.command if it != '--'] or ['rt', 'ci', '--anew']
     lines, status = lines_of(command, log)
     print()
-    Gate(lines).print_table()
+    finish(Gate(lines), given)
     return status
+
+
+def finish(gate, given):
+    gate.print_table()
+    if given.keep:
+        gate.keep()
 
 
 if __name__ == '__main__':

@@ -33,6 +33,7 @@ import tempfile
 from typing import NamedTuple
 
 import documents
+import measured
 
 ROOT = os.path.dirname(os.path.dirname(os.path.abspath(__file__)))
 
@@ -209,6 +210,7 @@ def instructions(command):
 
 def show_instructions(given):
     print('\n| Workload | Instructions | a byte | a row |\n|---|---|---|---|')
+    found = {}
     for work in WORKLOADS:
         if work.name not in given.only:
             continue
@@ -219,6 +221,11 @@ def show_instructions(given):
         made, rows = instructions(command), output('rematch', command)[1]
         print('| %s | %d | %.1f | %.1f |' % (work.name, made, made / length, made / rows))
         sys.stdout.flush()
+        found[work.name] = '%.4g' % (made / (rows if work.name in 'CEU' else length))
+    if given.keep:
+        measured.keep('instructions', list(found), [list(found.values())], given.program, what='instructions of the workloads',
+                      how='bench/workloads.py --instructions --keep', machine='callgrind, which the load does not change', load='',
+                      note='A, B, D, F and G are for each byte, C and E, and U over characters, for each row.')
 
 
 def main():
@@ -231,6 +238,7 @@ def main():
     parser.add_argument('--seconds', type=float, default=25)
     parser.add_argument('--growth', action='store_true')
     parser.add_argument('--instructions', action='store_true')
+    parser.add_argument('--keep', action='store_true', help='write the instructions to bench/measured')
     parser.add_argument('--texts', action='store_true')
     given = parser.parse_args()
     given.program = os.path.abspath(given.program)
