@@ -21,8 +21,9 @@ const RUN: usize = 64;
 /// The most ways of a state that are read whole.
 pub(crate) const FEW_WAYS: usize = 256;
 
-/// How many parts are kept in all.
-const MOST_PARTS: usize = 500_000;
+/// How many parts are kept in all. A part takes 64 bytes, so all take at most 256 MB. A state of 1,600 ways has some five parts for
+/// each byte, so that 3,000 such states keep theirs for all bytes.
+const MOST_PARTS: usize = 4_000_000;
 
 /// The runs of states with many ways, and the parts of their numbers on bytes, as far as they were asked for.
 #[derive(Drop)]
