@@ -111,8 +111,11 @@ module _ (A : Automaton) (G : Rule) (ends : (set : List ℕ) → G set → Settl
       back : LeadsPast A G 0 (ps ++ p ∷ []) start w set → Reaches R set w
       back h =
           let x = past_more A G ends 0 ps p start w set h in
-          (left set w).1 ((read.words set w).1
-          (x.0, x.1, x.2, (layer x.0 x.1).1 x.3, subst (λ (qs : List ReadingPlace). Leads A qs x.0 x.2 set) (sym at_piece) x.4, x.6), x.5)
+          (left set w).1 (
+            (read.words set w).1
+                (x.0, x.1, x.2, (layer x.0 x.1).1 x.3, subst (λ (qs : List ReadingPlace). Leads A qs x.0 x.2 set) (sym at_piece) x.4, x.6),
+            x.5,
+          )
 
   pub given_more : (w : Word) → ((set : List ℕ) × Reaches Q set w × G set) ↔ IsGivenNext A G ps p w
   given_more w = (

@@ -36,8 +36,8 @@ module _ {X : Type 0} where
   within_with rows n v q lt lies =
       let k = n % 32 in let i = n / 32 in let r = get_or rows k [] in let new = set rows k (set r i v) in
       let long : length (get_or new (q % 32) []) ≡ length (get_or rows (q % 32) []) = ⊎_elim
-        (λ t. ap (λ j. length (get_or new j [])) t.1 ∙ ap length (get_or-set_same rows k (set r i v) [] (row_there rows k i lt)) ∙ length-set r i v ∙ ap (λ j. length (get_or rows j [])) (sym t.1))
-        (λ f. ap length (get_or-set_other rows k (q % 32) (set r i v) [] f.1)) (eqb_tells (q % 32) k) in
+      (λ t. ap (λ j. length (get_or new j [])) t.1 ∙ ap length (get_or-set_same rows k (set r i v) [] (row_there rows k i lt)) ∙ length-set r i v ∙ ap (λ j. length (get_or rows j [])) (sym t.1))
+      (λ f. ap length (get_or-set_other rows k (q % 32) (set r i v) [] f.1)) (eqb_tells (q % 32) k) in
       subst (λ m. q / 32 < m) (sym long) lies
 
   -- a chunk of bare cells is added

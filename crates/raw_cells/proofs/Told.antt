@@ -53,19 +53,19 @@ module _ {X : Type 0} where
     all = ok.all;
     few = subst (λ n. n ≤ 32) (sym (length-set chunks k e)) ok.few;
     told = λ j c lies. let here = subst (λ n. j < n) (length-set chunks k e) lies in ⊎_elim
-      (λ t. ok.told j d here ∙ ap (λ i. (get_or chunks i d).0) t.1 ∙ ap (λ (b : Block X). b.0) (sym at) ∙ sym same ∙ sym (ap (λ (b : Block X). b.0) (ap (λ i. get_or (set chunks k e) i c) t.1 ∙ get_or-set_same chunks k e c lt)))
-      (λ f. ok.told j c here ∙ sym (ap (λ (b : Block X). b.0) (get_or-set_other chunks k j e c f.1))) (eqb_tells j k);
+        (λ t. ok.told j d here ∙ ap (λ i. (get_or chunks i d).0) t.1 ∙ ap (λ (b : Block X). b.0) (sym at) ∙ sym same ∙ sym (ap (λ (b : Block X). b.0) (ap (λ i. get_or (set chunks k e) i c) t.1 ∙ get_or-set_same chunks k e c lt)))
+        (λ f. ok.told j c here ∙ sym (ap (λ (b : Block X). b.0) (get_or-set_other chunks k j e c f.1))) (eqb_tells j k);
   }
 
   pub told_push : {O : Type 0} (h : O → Ptr) (none o : O) (origins : List O) (chunks : List (Block X)) (c : Block X) (i : ℕ) → AreTold (length origins) (λ k. h (get_or origins k none)) chunks
       → i ≡ length chunks → i < 32 → h o ≡ c.0 → AreTold (length (set origins i o)) (λ k. h (get_or (set origins i o) k none)) (chunks ++ c ∷ [])
   told_push h none o origins chunks c i ok at lt same =
       let all = ok.all in let long = length-append chunks (c ∷ []) in record {
-      all = length-set origins i o ∙ ok.all;
-      few = omega arith;
-      told = λ k d lies. ⊎_elim
-        (λ t. ap (λ j. h (get_or (set origins i o) j none)) t.1 ∙ ap h (get_or-set_same origins i o none (omega arith)) ∙ same ∙ sym (ap (λ (b : Block X). b.0) (ap (λ j. get_or (chunks ++ c ∷ []) j d) (t.1 ∙ at) ∙ last chunks c d)))
-        (λ f. ap h (get_or-set_other origins i k o none f.1) ∙ ok.told k d (before k i (length chunks) at f.1 (omega (arith, lies, long))) ∙ sym (ap (λ (b : Block X). b.0) (front chunks c k d (before k i (length chunks) at f.1 (omega (arith, lies, long)))))) (eqb_tells k i);
+        all = length-set origins i o ∙ ok.all;
+        few = omega arith;
+        told = λ k d lies. ⊎_elim
+            (λ t. ap (λ j. h (get_or (set origins i o) j none)) t.1 ∙ ap h (get_or-set_same origins i o none (omega arith)) ∙ same ∙ sym (ap (λ (b : Block X). b.0) (ap (λ j. get_or (chunks ++ c ∷ []) j d) (t.1 ∙ at) ∙ last chunks c d)))
+            (λ f. ap h (get_or-set_other origins i k o none f.1) ∙ ok.told k d (before k i (length chunks) at f.1 (omega (arith, lies, long))) ∙ sym (ap (λ (b : Block X). b.0) (front chunks c k d (before k i (length chunks) at f.1 (omega (arith, lies, long)))))) (eqb_tells k i);
       }
     where
       last : (xs : List (Block X)) (y d : Block X) → get_or (xs ++ y ∷ []) (length xs) d ≡ y

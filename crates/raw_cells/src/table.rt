@@ -50,7 +50,12 @@ impl<T> Table<T> {
     }
 
     /// One chunk more, of at least `least` bare cells and at most `most`. Tells of how many.
-    pub(crate) fn add(&mut self, alloc: Global, least: usize, most: usize) -> Result<usize, OutOfMemory>
+    pub(crate) fn add(
+        &mut self,
+        alloc: Global,
+        least: usize,
+        most: usize,
+    ) -> Result<usize, OutOfMemory>
         requires most { least ≤ most }
         requires few { length self.old < MOST_CHUNKS }
         ensures added { IfOk result (λ count. (c : List (Spot T)) × (self.new ≡ self.old ++ c ∷ []) × (length c ≡ count) × AreBare c × (least ≤ count) × (count ≤ most)) }
@@ -118,7 +123,10 @@ impl<T> Table<T> {
 
     /// Gives all memory back.
     pub(crate) fn free(self) {
-        let Table { bases: _, mut chunks } = self;
+        let Table {
+            bases: _,
+            mut chunks,
+        } = self;
         while let Some(chunk) = chunks.pop() {
             chunk.free();
         }

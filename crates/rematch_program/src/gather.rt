@@ -161,7 +161,15 @@ impl Gather {
         ensures later { (O.told out.old).faults ≤ (O.told out.new).faults }
     {
         let (at, buffer) = (self.end, self.bytes.as_mut_slice());
-        let Some(end) = line.put_ends(of.spans, of.place, of.span, of.ends, of.document, buffer, at) else {
+        let Some(end) = line.put_ends(
+            of.spans,
+            of.place,
+            of.span,
+            of.ends,
+            of.document,
+            buffer,
+            at,
+        ) else {
             return self.add_each(line, of, out);
         };
         if end <= PIECE {

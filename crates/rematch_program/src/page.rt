@@ -166,8 +166,7 @@ fn put_runs<O: Sink, J: Judge, L: Ledger>(
     rows: &mut TestedRows<'_, J>,
     out: &mut O,
     steps: &mut Steps<L>,
-) -> Result<(), PageFault>
-{
+) -> Result<(), PageFault> {
     let mut ends = [0; MOST_ENDS];
     let mut full = true;
     while full {

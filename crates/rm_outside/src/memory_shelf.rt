@@ -109,7 +109,12 @@ impl Shelf for MemoryShelf {
         }
     }
 
-    fn fetch_to<T: Taker>(&mut self, name: &str, limit: u64, taker: &mut T) -> Result<(), FetchFault>
+    fn fetch_to<T: Taker>(
+        &mut self,
+        name: &str,
+        limit: u64,
+        taker: &mut T,
+    ) -> Result<(), FetchFault>
         requires limit { limit < 2 ^ 64 - 1 }
         ensures gains { OnOk result (HandsAll limit (held_of self.old name.now) (λ first d. T.takes first d taker.old) (λ first d. T.takes first d taker.new)) }
         ensures refused { OnErr result (HandsSome (held_of self.old name.now) (λ first d. T.takes first d taker.old) (λ first d. T.takes first d taker.new)) }

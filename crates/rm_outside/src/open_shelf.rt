@@ -56,7 +56,12 @@ impl<O: Opens> Shelf for OpenShelf<O> {
         }
     }
 
-    fn fetch_to<T: Taker>(&mut self, name: &str, limit: u64, taker: &mut T) -> Result<(), FetchFault>
+    fn fetch_to<T: Taker>(
+        &mut self,
+        name: &str,
+        limit: u64,
+        taker: &mut T,
+    ) -> Result<(), FetchFault>
         requires limit { limit < 2 ^ 64 - 1 }
         ensures gains { OnOk result (HandsAll limit ((O.told self.old.opens).held name.now) (λ first d. T.takes first d taker.old) (λ first d. T.takes first d taker.new)) }
         ensures refused { OnErr result (HandsSome ((O.told self.old.opens).held name.now) (λ first d. T.takes first d taker.old) (λ first d. T.takes first d taker.new)) }

@@ -39,7 +39,12 @@ pub trait Shelf {
 
     /// Hands all that the name holds to a taker, piece by piece, if that is at most `limit` bytes.
     /// After an `Err` the taker has taken some of the bytes, from the first on. Whatever comes, the name was fetched once.
-    fn fetch_to<T: Taker>(&mut self, name: &str, limit: u64, taker: &mut T) -> Result<(), FetchFault>
+    fn fetch_to<T: Taker>(
+        &mut self,
+        name: &str,
+        limit: u64,
+        taker: &mut T,
+    ) -> Result<(), FetchFault>
         requires limit { limit < 2 ^ 64 - 1 }
         ensures gains { OnOk result (HandsAll limit ((told self.old).held name.now) (λ first d. T.takes first d taker.old) (λ first d. T.takes first d taker.new)) }
         ensures refused { OnErr result (HandsSome ((told self.old).held name.now) (λ first d. T.takes first d taker.old) (λ first d. T.takes first d taker.new)) }

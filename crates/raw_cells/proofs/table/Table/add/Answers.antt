@@ -32,6 +32,11 @@ invariant_of-self-2 g c =
 
 pub returns-clause-added : goal.returns-clause-added
 returns-clause-added g c =
-    let chunk = c.in_ok-chunk.chunk in let items = c.self.inside.chunks.items in let made = c.in_ok-chunk.ensures in
-    (chunk.1, ap rows_of (c.push_reserved.ensures.items ∙ ap (λ l. l ++ chunk ∷ []) c.reserve.ensures.items) ∙ rows_push items chunk ∙ ap (λ r. r ++ chunk.1 ∷ []) c.self.view_is,
-    sym c.len-count.ensures, made.2, rw c.len-count.ensures made.0, rw c.len-count.ensures made.1)
+    let chunk = c.in_ok-chunk.chunk in let items = c.self.inside.chunks.items in let made = c.in_ok-chunk.ensures in (
+      chunk.1,
+      ap rows_of (c.push_reserved.ensures.items ∙ ap (λ l. l ++ chunk ∷ []) c.reserve.ensures.items) ∙ rows_push items chunk ∙ ap (λ r. r ++ chunk.1 ∷ []) c.self.view_is,
+      sym c.len-count.ensures,
+      made.2,
+      rw c.len-count.ensures made.0,
+      rw c.len-count.ensures made.1,
+    )
