@@ -3,7 +3,7 @@
 
     bench/compile.py [--program PATH] [--only NAME ..] [--seconds S] [--times N]
 
-PROGRAM is `check_engine`, which tells the size of the one query that it is given
+PROGRAM is `check_automata`, which tells the size of the one query that it is given
 (`rt run` in its folder builds it). Python 3.8, standard library; Linux, for the memory.
 """
 import argparse
@@ -93,13 +93,13 @@ def run(program, query, seconds):
 
 def main():
     parser = argparse.ArgumentParser(description='Measures how long large queries take to be compiled.')
-    parser.add_argument('--program', default=os.path.join(ROOT, 'crates', 'check_engine', 'out', 'check_engine'))
+    parser.add_argument('--program', default=os.path.join(ROOT, 'crates', 'check_automata', 'out', 'check_automata'))
     parser.add_argument('--only', nargs='+', metavar='NAME')
     parser.add_argument('--seconds', type=float, default=120)
     parser.add_argument('--times', type=int, default=1)
     given = parser.parse_args()
     if not os.access(given.program, os.X_OK):
-        sys.exit('check_engine is not built: %s' % given.program)
+        sys.exit('check_automata is not built: %s' % given.program)
     print('load %.2f of %d processors' % (os.getloadavg()[0], os.cpu_count()))
     print('%-48s %8s %8s %8s  %s' % ('query', 'bytes', 'seconds', 'peak MB', 'told'))
     for name, query in QUERIES.items():

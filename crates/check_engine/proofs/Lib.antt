@@ -1,3 +1,0 @@
-mod RowLaws
-mod WaitingLaws
-mod HeldCells

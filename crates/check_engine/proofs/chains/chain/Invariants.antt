@@ -1,6 +1,0 @@
-use Rattle.std.proofs.Common.{◌<◌}
-use Rattle.node_arena.specs.Cells.{hold}
-use Rattle.check_engine.proofs.chains.chain.Given as goal
-
-abbrev pub invariant-loop : goal.invariant-loop
-invariant-loop g l = 0 < hold l.arena.holds l.cell

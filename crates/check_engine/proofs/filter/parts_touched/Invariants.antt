@@ -1,4 +1,0 @@
-use Rattle.check_engine.proofs.filter.parts_touched.Given as goal
-
-abbrev pub ghosts-touched_by : goal.ghosts-touched_by
-ghosts-touched_by a = record { name = a.blank.name; parts = a.blank.parts }

@@ -1,4 +1,0 @@
-use Rattle.check_engine.proofs.pieces.check_pieces.Given as goal
-
-abbrev pub ghosts-words_in_pieces : goal.ghosts-words_in_pieces
-ghosts-words_in_pieces a = record { name = a.blank.name; parts = a.blank.parts }

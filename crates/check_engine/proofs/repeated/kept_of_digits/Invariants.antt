@@ -1,4 +1,0 @@
-use Rattle.check_engine.proofs.repeated.kept_of_digits.Given as goal
-
-abbrev pub ghosts-kept_of : goal.ghosts-kept_of
-ghosts-kept_of a = record { name = a.blank.name; parts = a.blank.parts }

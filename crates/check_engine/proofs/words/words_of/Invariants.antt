@@ -1,5 +1,0 @@
-use Rattle.check_engine.specs.Waiting.{AreThere}
-use Rattle.check_engine.proofs.words.words_of.Given as goal
-
-abbrev pub invariant-loop : goal.invariant-loop
-invariant-loop g l = AreThere l.lists.store l.stack.items

@@ -1,0 +1,2 @@
+mod WaitingLaws
+mod HeldCells

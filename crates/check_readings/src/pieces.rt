@@ -1,0 +1,66 @@
+//! Documents that are read in two pieces.
+ghost use Rattle.std.specs.Prelude.{◌≡◌, ◌+◌, ◌<◌, ◌≤◌, length};
+ghost use Rattle.check_cases.specs.declared.TheConstants.{MOST_BYTES};
+
+use crate::fault::Fault;
+use crate::reading::LIMIT;
+use crate::words::{Block, words_of};
+use check_cases::MOST_BYTES;
+use marked_automaton::Automaton;
+use one_pass::{advance, finish};
+use output_graph::OutputGraph;
+use set_table::Table;
+use span_core::Steps;
+use std::alloc::Global;
+use std::marker::Brand;
+use std::sync::ledger::{Blank, Ledger};
+
+/// Checks that a document has the same words where it is read in two pieces, wherever it is cut, and gives the
+/// number of cuts.
+pub(crate) fn check_pieces(
+    alloc: Global,
+    automaton: &Automaton,
+    document: &[u8],
+    whole: &Vec<Vec<Block>>,
+) -> Result<usize, Fault>
+    requires short { length document.now ≤ MOST_BYTES }
+{
+    for cut in 0..=document.len() {
+        let pieces = document.split_at(cut);
+        let read = words_in_pieces::<Brand>(alloc, Blank::new(1), automaton, pieces)?;
+        if read != *whole {
+            return Err(Fault::Pieces {
+                document: document.to_vec(alloc)?,
+                cut,
+                read,
+                whole: whole.clone()?,
+            });
+        }
+    }
+    Ok(document.len() + 1)
+}
+
+/// The words of a document that is read in these two pieces.
+fn words_in_pieces<L: Ledger>(
+    alloc: Global,
+    blank: Blank,
+    automaton: &Automaton,
+    pieces: (&[u8], &[u8]),
+) -> Result<Vec<Vec<Block>>, Fault>
+    requires name { blank.name ≡ L.name }
+    requires parts { blank.parts ≡ L.parts }
+    requires some { 0 < L.parts }
+    requires short { length pieces.0.now + length pieces.1.now ≤ MOST_BYTES }
+{
+    let mut steps = Steps::<L>::new(blank);
+    let (first, second) = pieces;
+    let middle = first.len() as u32;
+    let end = middle + second.len() as u32;
+    let mut table = Table::new(alloc, automaton, LIMIT, &mut steps)?;
+    let graph = OutputGraph::start(alloc, table.start(), &mut steps)?;
+    let graph = advance(alloc, &mut table, graph, 0, first, &mut steps)?;
+    let graph = advance(alloc, &mut table, graph, middle, second, &mut steps)?;
+    let graph = finish(alloc, &mut table, graph, end, &mut steps)?;
+    let lists = graph.turn(&mut steps);
+    words_of(alloc, &lists, &mut steps)
+}
