@@ -11,6 +11,8 @@ pub use span_core::Kept;
 pub use spanner_engine::{BeginFault, Cache, Options};
 
 mod cells;
+#[cfg(test)]
+mod first_tests;
 mod prepared;
 mod rows;
 

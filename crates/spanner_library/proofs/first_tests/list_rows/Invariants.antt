@@ -1,8 +1,8 @@
 use Rattle.std.proofs.Common.{◌≡◌, ◌*◌, length}
 use Rattle.spanner_engine.specs.Fitting.{AreLast}
 use Rattle.spanner_library.specs.Library.{tree}
-use Rattle.library_example.specs.declared.TheConstants.{MOST_ROWS}
-use Rattle.library_example.proofs.print_rows.Given as goal
+use Rattle.spanner_library.specs.declared.first_tests.TheConstants.{MOST_ROWS}
+use Rattle.spanner_library.proofs.first_tests.list_rows.Given as goal
 
 -- the rows that are still to come are the last, and there is room for those of one call
 abbrev pub invariant-loop-numbers : goal.invariant-loop-numbers

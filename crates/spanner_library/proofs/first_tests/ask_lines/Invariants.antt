@@ -1,5 +1,5 @@
 use Rattle.spanner_engine.specs.Caching.{IsCacheOf}
-use Rattle.library_example.proofs.ask_lines.Given as goal
+use Rattle.spanner_library.proofs.first_tests.ask_lines.Given as goal
 
 -- the cache belongs to the query
 abbrev pub invariant-loop-line : goal.invariant-loop-line
