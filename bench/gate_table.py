@@ -2,13 +2,17 @@
 """Runs a whole gate and prints what each crate took of it.
 
     bench/gate_table.py [--log FILE] [--keep] [COMMAND ..]
+    bench/gate_table.py --watch PID [--keep]
     bench/gate_table.py --read FILE [--keep]
 
 COMMAND is `rt ci --anew` where none is given; it is run at the top of the repository. What it says is
-passed on, each line behind the seconds since the start, and written to FILE too. At the end a table tells
+passed on, each line behind the seconds since the start, and written to FILE too. At the end a table shows
 by crate, in minutes: when it was proved, from the start; what its proof, its tests and its edits took of
-one processor; and how many edits were refused. Below it stand the sums, and the edits that were not
-refused, or say little.
+one processor; and how many edits were refused. Below it are the sums, the longest chain of crates that
+wait for each other, and the edits that were not refused, or say little.
+
+With --watch what the processes below PID take is read until this script is ended or PID is gone. Then the
+sums and the chain alone are printed.
 
 `rt ci` tells no times. When a line came this script looks up; what a job took it reads from /proc, of the
 processes that check, build and run a crate, once a second, so a job's last second may be missing. The
@@ -24,6 +28,7 @@ Python 3.8, standard library. Linux.
 import argparse
 import os
 import re
+import signal
 import subprocess
 import sys
 import threading
@@ -37,6 +42,7 @@ import measured  # noqa: E402
 TICKS = os.sysconf('SC_CLK_TCK')
 KINDS = ['proof', 'tests', 'edits']
 STAMPED = re.compile(r'\s*([0-9]+\.[0-9]) (.*)')
+ENDING = re.compile(r'[0-9]+ passed, [0-9]+ failed')
 TOOK = re.compile(r'took (\w+) (proof|tests|edits) ([0-9.]+)$')
 
 
@@ -84,6 +90,23 @@ class Processes:
         for crate, kind, _, most in self.jobs.values():
             sums[crate, kind] = sums.get((crate, kind), 0.0) + most
         return sums
+
+    def lines(self):
+        return ['took %s %s %.1f' % (crate, kind, seconds) for (crate, kind), seconds in sorted(self.sums().items())]
+
+
+def watched(root):
+    """The lines of what the jobs below a process take, until this script is ended or the process is gone."""
+    processes = Processes(root)
+
+    def end(signal_number, frame):
+        processes.is_done = True
+
+    signal.signal(signal.SIGTERM, end)
+    while not processes.is_done and os.path.exists('/proc/%d' % root):
+        processes.look()
+        time.sleep(1)
+    return processes.lines()
 
 
 def stat_of(number):
@@ -134,8 +157,8 @@ def lines_of(command, log):
     status = child.wait()
     processes.is_done = True
     watcher.join()
-    for (crate, kind), seconds in sorted(processes.sums().items()):
-        keep('took %s %s %.1f' % (crate, kind, seconds))
+    for line in processes.lines():
+        keep(line)
     return lines, status
 
 
@@ -176,7 +199,7 @@ class Gate:
                 self.odd.append('%s/%s: %s' % (name, edit[2], edit[3]))
         elif took:
             self.took[self.crate(took[1]), took[2]] = float(took[3])
-        elif re.match(r'[0-9]+ passed, [0-9]+ failed', text):
+        elif ENDING.match(text):
             self.ending = text
 
     def print_table(self):
@@ -188,11 +211,9 @@ class Gate:
             cells = ['kept' if name in self.kept else minutes(at), self.part(name, 'proof'),
                      self.part(name, 'tests'), str(self.edits.get(name, 0) or '-'), self.part(name, 'edits')]
             print('| `%s` | %s |' % (name, ' | '.join(cells)))
-        sums = {kind: sum(it for (_, of), it in self.took.items() if of == kind) for kind in KINDS}
         print()
-        print('In processor minutes: %s. Edits: %d. %s' % (
-            ', '.join('%.0f for the %s' % (sums[kind] / 60, kind) for kind in KINDS),
-            sum(self.edits.values()), self.ending))
+        self.print_sums()
+        print(self.ending)
         for text in self.odd:
             print('odd: %s' % text)
 
@@ -202,8 +223,41 @@ class Gate:
         measured.keep('gate', ['Crate', 'Proof', 'Tests', 'Edits'], rows, how='bench/gate_table.py --keep',
                       what='minutes of one processor that each crate takes of a gate from nothing')
 
+    def print_sums(self):
+        sums = {kind: sum(it for (_, of), it in self.took.items() if of == kind) for kind in KINDS}
+        print('In processor minutes: %s. Edits: %d.' % (
+            ', '.join('%.0f for the %s' % (sums[kind] / 60, kind) for kind in KINDS), sum(self.edits.values())))
+        seconds, names = self.longest_chain()
+        print('The longest chain, in processor minutes: %.1f. %s' % (
+            seconds / 60, ', '.join('%s %s' % (name, self.part(name, 'proof')) for name in names)))
+
+    def longest_chain(self):
+        """What the proofs of the crates that wait for each other took, and these crates, the lowest first."""
+        below = crates_below()
+        found = {}
+
+        def longest(name):
+            if name not in found:
+                before = max((longest(other) for other in below[name]), default=(0.0, []))
+                found[name] = (before[0] + self.took.get((name, 'proof'), 0.0), before[1] + [name])
+            return found[name]
+
+        seconds, names = max(map(longest, below), default=(0.0, []))
+        return seconds, [name for name in names if (name, 'proof') in self.took]
+
     def part(self, name, kind):
         return minutes(self.took.get((name, kind)))
+
+
+def crates_below():
+    """The crates of crates.txt, each with those of them that it names."""
+    lines = {}
+    with open(os.path.join(ROOT, 'crates.txt'), encoding='utf-8') as file:
+        for line in file:
+            found = re.match(r'([a-z]\w*)[^:]*:(.*)', line)
+            if found:
+                lines[found[1]] = found[2].split()
+    return {name: [other for other in rest if other in lines] for name, rest in lines.items()}
 
 
 def minutes(seconds):
@@ -213,6 +267,7 @@ def minutes(seconds):
 def main():
     parser = argparse.ArgumentParser(description='Runs a whole gate and prints what each crate took of it.')
     parser.add_argument('--log', metavar='FILE')
+    parser.add_argument('--watch', metavar='PID', type=int)
     parser.add_argument('--read', metavar='FILE')
     parser.add_argument('--keep', action='store_true', help='write bench/measured/gate.tsv')
     parser.add_argument('command', nargs=argparse.REMAINDER)
@@ -220,6 +275,12 @@ def main():
     if given.read:
         with open(given.read, errors='replace') as it:
             finish(Gate(it.read().split('\n')), given)
+        return 0
+    if given.watch:
+        gate = Gate(watched(given.watch))
+        gate.print_sums()
+        if given.keep:
+            gate.keep()
         return 0
     log = open(given.log, 'w') if given.log else None
     command = [it for it in given.command if it != '--'] or ['rt', 'ci', '--anew']
