@@ -18,7 +18,7 @@ import measured  # noqa: E402
 
 BLOCK = re.compile(r'(^<!-- made: (.*?) -->\n)(.*?)(^<!-- end -->$)', re.M | re.S)
 EVERYWHERE = ('span_core', 'spanner_model', 'span_tests')  # left out of the drawing
-PROGRAMS = ('check_engine', 'check_growing', 'engine_bench', 'library_example')
+PROGRAMS = ('check_texts', 'check_automata', 'check_readings', 'check_growing', 'engine_bench')
 
 
 def read(*parts):
