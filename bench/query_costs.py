@@ -4,9 +4,9 @@
     bench/query_costs.py [--program PATH] [--keep]
 
 For each query it prints the states and ways of its atoms, as --explain counts them, and the processor seconds and the most
-memory of a run on the empty document and of one on 2,000 bytes. Then it measures a test that never passes, by the length of
-the document. With --keep it writes bench/measured/query_costs.tsv and failing_tests.tsv, from which docs/make makes tables of
-docs/LIMITS.md. Linux, Python 3.8, standard library.
+memory of a run on the empty document and of one on 2,000 bytes. Then come queries that meet a guard, each beside one that just
+does not, and a test that never passes, by the length of the document. With --keep it writes query_costs.tsv, guards.tsv and
+failing_tests.tsv of bench/measured, from which docs/make makes tables of docs/LIMITS.md. Linux, Python 3.8, standard library.
 """
 import argparse
 import os
@@ -23,7 +23,23 @@ from limited import Limits, lay_out, run  # noqa: E402
 LIMITS = Limits(clock=300, stack=8 << 20, memory=4 << 30, tick=0.002)
 LETTERS = b'a' * 2000
 WORDS = (b'the quick brown fox jumps over the lazy dog again and ' * 40)[:2000]
-OPTIONAL = ''.join('(!v%d{})?' % number for number in range(16))
+LARGE = '/^(a?){1000}(a?){999}$/'
+
+
+def optional(count, name='v'):
+    return ''.join('(!%s%d{})?' % (name, number) for number in range(count))
+
+
+def lets(count):
+    return ''.join('let x%d = %s; ' % (number, LARGE) for number in range(count)) + '/!x{a}/'
+
+
+def two(count):
+    return '/^%s$/ join /^%s$/' % (optional(count), optional(count, 'w'))
+
+
+def letters_in_lets(count):
+    return ''.join('let x%d = /^(%s)$/u; ' % (number, '\\p{Lu}a' * 133) for number in range(count)) + '/!x{a}/'
 
 
 def unchanged(count):
@@ -39,11 +55,27 @@ QUERIES = [
     ('n = 1,000 and 990, near the limit', '/^(a?){1000}(a?){990}$/', LETTERS),
     ('`/[^\\p{L}]!x{\\p{L}{1,5}}[^\\p{L}]/u`', None, WORDS),
     ('the same with `{1,50}`', '/[^\\p{L}]!x{\\p{L}{1,50}}[^\\p{L}]/u', WORDS),
-    ('16 optional captures of the empty part', '/^%s$/' % OPTIONAL, b''),
+    ('16 optional captures of the empty part', '/^%s$/' % optional(16), b''),
     ('32 captures of `.*` beside each other', '/%s/' % ''.join('!v%d{.*}' % number for number in range(32)), LETTERS),
     ('`/^[ab]*$/ minus /^[ab]*a[ab]{12}$/`', None, LETTERS),
     ('`\\p{L}` 700 times', '/%s/u' % ('\\p{L}' * 700), WORDS),
     ('`\\p{L}` 13,000 times', '/%s/u' % ('\\p{L}' * 13000), WORDS),
+]
+
+
+GUARDS = [  # a guard, a text, and the query; T15 and U15 are fifteen optional captures of the empty part
+    ('`MOST_HELD`', '3 lets of `%s`, then `/!x{a}/`' % LARGE, lets(3)),
+    ('`MOST_HELD`', '4 of them', lets(4)),
+    ('`MOST_STEPS`', '`/^T15a$/ join /^U15b$/`', '/^%sa$/ join /^%sb$/' % (optional(15), optional(15, 'w'))),
+    ('`MOST_STEPS`', '`/^T16a$/ join /^U16b$/`', '/^%sa$/ join /^%sb$/' % (optional(16), optional(16, 'w'))),
+    ('`MOST_STEPS`', '`/!x{[ab]*}/ minus /!x{([ab]?){500}([ab]?){400}}/`', '/!x{[ab]*}/ minus /!x{([ab]?){500}([ab]?){400}}/'),
+    ('`MOST_STEPS`', 'the same with `{1000}` and `{900}`', '/!x{[ab]*}/ minus /!x{([ab]?){1000}([ab]?){900}}/'),
+    ('ends of an atom', '`/^(a?){200}T15$/`', '/^(a?){200}%s$/' % optional(15)),
+    ('ends of an atom', '`/^(a?){250}T15$/`', '/^(a?){250}%s$/' % optional(15)),
+    ('ends of a join', '`/^T11$/ join /^U11$/`', two(11)),
+    ('ends of a join', '`/^T12$/ join /^U12$/`', two(12)),
+    ('sets of characters', '22 lets of `/^(..)$/u`, each with `\\p{Lu}a` 133 times, then `/!x{a}/`', letters_in_lets(22)),
+    ('sets of characters', '23 of them', letters_in_lets(23)),
 ]
 
 
@@ -68,8 +100,14 @@ class Costs:
         return [name, format(len(query), ',')] + numbers + [took(made), took(read) if ending == 'end' and document else '', ending]
 
 
+    def guarded(self, guard, text, query):
+        ended = self.run(query, b'', '-n', '1', 'D')
+        note = ended.note.decode().strip()
+        return [guard, text, format(len(query), ','), took(ended), 'answered' if note.startswith(('end', 'more')) else note]
+
+
 def took(ended):
-    return '%.2f, %.0f' % (ended.seconds, ended.held) if ended.held else '%.2f' % ended.seconds
+    return '%.2f, %.0f' % (ended.seconds, ended.held) if ended.held >= 1 else '%.2f' % ended.seconds
 
 
 def main():
@@ -83,6 +121,10 @@ def main():
     for query in QUERIES:
         rows.append(costs.row(*query))
         print('\t'.join(rows[-1]), flush=True)
+    guards = []
+    for guard in GUARDS:
+        guards.append(costs.guarded(*guard))
+        print('\t'.join(guards[-1]), flush=True)
     failing = []
     for length in (2000, 6000, 20000):
         ended = costs.run('/!x{a*}/ where upper(x)', b'a' * length, 'D')
@@ -92,6 +134,9 @@ def main():
     if given.keep:
         measured.keep('query_costs', columns, rows, costs.program, what='what queries cost', how='bench/query_costs.py --keep',
                       note='Processor seconds and the most memory of one run each; states and ways are those of all atoms.')
+        measured.keep('guards', ['Guard', 'Query', 'Bytes of text', 'Seconds, MB', 'Ends by'], guards, costs.program,
+                      what='queries that meet a guard', how='bench/query_costs.py --keep',
+                      note='T15 and U15 are fifteen optional captures of the empty part, as `(!a{})?(!b{})?` is two.')
         measured.keep('failing_tests', ['Bytes', 'Answers', 'Seconds', 'ns an answer'], failing, costs.program, what='a test that never passes',
                       how='bench/query_costs.py --keep')
     return 0
