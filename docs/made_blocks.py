@@ -64,6 +64,11 @@ class Crates:
                 self.rooms.append((line[2:], []))
         self.on = {name: [one for one in on if one in self.on] for name, on in self.on.items()}
 
+    def libraries(self):
+        """What crates.txt names that is no crate of it: libraries of the toolchain."""
+        named = re.findall(r'[a-z]\w*', ' '.join(re.findall(r'^[a-z]\w*[^:\n]*:(.*)', read('crates.txt'), re.M)))
+        return sorted(set(named) - set(self.on))
+
     def below(self, name):
         """The crates that this one stands on, and those that these stand on."""
         found, todo = set(), list(self.on[name])
@@ -134,6 +139,10 @@ def drawing(_):
             lines.append('    %-11s %-18s %s' % (room if place == 0 else '', name, on[0] if on else ''))
             lines += ['    %-30s %s' % ('', more) for more in on[1:]]
     return '\n'.join(line.rstrip() for line in lines)
+
+
+def libraries(_):
+    return wrapped('Libraries of the toolchain whose statements are trusted: %s.' % listed(Crates().libraries()))
 
 
 def edges(_):
@@ -248,7 +257,7 @@ def worst(rows, column, form):
     return (form + ': %s') % (float(row[column] or 0), row[1].replace('|', '\\|'))
 
 
-BLOCKS = {'again': again, 'drawing': drawing, 'edges': edges, 'counts': counts, 'believe': believe, 'figures': figures,
+BLOCKS = {'again': again, 'drawing': drawing, 'edges': edges, 'libraries': libraries, 'counts': counts, 'believe': believe, 'figures': figures,
           'gate': gate, 'gate_sums': gate_sums, 'hostile': hostile}
 
 
