@@ -9,7 +9,7 @@ import sys
 import time
 import unittest
 
-from rematch.to.words import FORMS
+from rematch.to.words import FORMS, OTHER_FORMS
 from support import CLIENTS, DOCS, EXAMPLES, PROGRAM, ROOT, Folder, needs
 
 SHELL = os.path.join(CLIENTS, 'shell')
@@ -57,7 +57,7 @@ class Bash(unittest.TestCase):
         self.assertEqual(self.complete('-n', ''), [])
         self.assertEqual(self.complete('-q', 'failed.query', 'auth'), ['auth.log'])
         self.assertEqual(self.complete('h', command='rematch-to'), ['html'])
-        self.assertEqual(set(self.complete('', command='rematch-to')), set(FORMS))
+        self.assertEqual(set(self.complete('', command='rematch-to')), {*FORMS, *OTHER_FORMS})
         self.assertEqual(self.complete('lines', '--color', 'a', command='rematch-to'), ['auto', 'always'])
         self.assertEqual(self.complete('csv', '--jobs', '', command='rematch-to'), [])
         self.assertEqual(self.complete('kwic', '--sort', '', command='rematch-to'), ['left', 'right', 'word'])
@@ -77,7 +77,7 @@ class Fish(Folder):
         self.assertEqual(set(self.complete('rematch -f ')), {'spans', 'table', 'json'})
         self.assertLessEqual({option for option in options() if option.startswith('--')}, set(self.complete('rematch --')))
         self.assertLessEqual({option for option in options() if not option.startswith('--')}, set(self.complete('rematch -')))
-        self.assertLessEqual(set(FORMS), set(self.complete('rematch-to ')))
+        self.assertLessEqual({*FORMS, *OTHER_FORMS}, set(self.complete('rematch-to ')))
         self.assertLessEqual({option for option in options_to() if option.startswith('--')}, set(self.complete('rematch-to csv --')))
         self.assertIn('failed.query', self.complete('rematch -q fai'))
 

@@ -3,13 +3,14 @@ from __future__ import annotations
 
 import os
 import sys
-from typing import Callable
+from contextlib import contextmanager
+from typing import Callable, Iterator, Optional, TextIO
 
 from .. import library
 from ..faults import RematchError
 from .._reach import NoReach
 
-__all__ = ['REFUSED', 'line_of', 'run_told']
+__all__ = ['REFUSED', 'line_of', 'output', 'run_told']
 
 REFUSED = 4  # of what has no reach, which is a refusal for its size
 
@@ -20,6 +21,19 @@ def line_of(fault: Exception) -> str:
     reason = getattr(fault, 'reason', None)
     told = f'no reach: {fault}' if isinstance(fault, NoReach) else reason or str(fault)
     return f'{name}: {told}' if name and name not in told else told
+
+
+@contextmanager
+def output(name: Optional[str]) -> Iterator[TextIO]:
+    """Where a command writes: a new file of that name, or else standard output; bytes that are no text are written as they are."""
+    if name is not None:
+        with open(name, 'w', encoding='utf-8', errors='surrogateescape', newline='\n') as file:
+            yield file
+        return
+    if hasattr(sys.stdout, 'reconfigure'):
+        sys.stdout.reconfigure(encoding='utf-8', errors='surrogateescape', newline='\n')
+    yield sys.stdout
+    sys.stdout.flush()
 
 
 def run_told(run: Callable[[], None]) -> int:

@@ -13,7 +13,7 @@ from ..faults import DocumentError, OutOfMemory, QueryError, RematchError, SizeE
 from ..match import Row
 from ..pieces import NoReach, reach
 from ..query import Query
-from .command import line_of, run_told
+from .command import line_of, output, run_told
 from .expand import Expanded, expanded
 from .doubts import doubts_of, oddity_of
 from .nucleotides import small_letter, with_iupac
@@ -302,28 +302,23 @@ class Command:
 def main(words: Optional[Iterable[str]] = None) -> int:
     """Runs the command; the status is that of the program for its faults, 2 for words that are refused, and 1 where one of several
     documents could not be read."""
-    given = read_words(list(sys.argv[1:] if words is None else words))
+    asked = list(sys.argv[1:] if words is None else words)
+    if asked[:1] == ['sql']:
+        from .sql import main as sql
+        return sql(asked[1:])
+    given = read_words(asked)
     if given.form == 'ann' and len(given.documents) > 1 and not (given.out and os.path.isdir(given.out)):
         refuse('ann of several documents needs -o FOLDER')
-    to_file = given.out is not None and not os.path.isdir(given.out)
     found: List[int] = []
 
     def run() -> None:
-        if hasattr(sys.stdout, 'reconfigure'):
-            sys.stdout.reconfigure(encoding='utf-8', errors='surrogateescape', newline='\n')
-        out: TextIO = open(str(given.out), 'w', encoding='utf-8', errors='surrogateescape',
-                           newline='\n') if to_file else sys.stdout
-        try:
-            with Progress() as progress:
-                command = Command(given, out, progress)
-                try:
-                    command.run()
-                finally:
-                    command.close()
-                out.flush()
-            found.append(1 if command.has_failed else command.status)
-        finally:
-            if out is not sys.stdout:
-                out.close()
+        to_file = given.out is not None and not os.path.isdir(given.out)
+        with output(given.out if to_file else None) as out, Progress() as progress:
+            command = Command(given, out, progress)
+            try:
+                command.run()
+            finally:
+                command.close()
+        found.append(1 if command.has_failed else command.status)
 
     return run_told(run) or (found[0] if found else 0)

@@ -5,7 +5,7 @@ import argparse
 import sys
 from typing import Any, Dict, List, NamedTuple, NoReturn, Optional, Sequence, Tuple
 
-__all__ = ['FORMS', 'Words', 'hint_of_program_words', 'hint_of_words', 'read_words']
+__all__ = ['FORMS', 'OTHER_FORMS', 'SQL_EXAMPLES', 'Words', 'hint_of_program_words', 'hint_of_words', 'read_words']
 
 
 class Form(NamedTuple):
@@ -60,6 +60,16 @@ FORMS: Dict[str, Form] = {
                   "rematch-to check --expanded -e '/error/i'\n\n"
                   'It takes the words of the program rematch too, and says what is wrong with them.'),
 }
+
+SQL_EXAMPLES = """\
+rematch-to sql 'select user, count(*) from failed group by user' -q failed.query auth.log*
+rematch-to sql 'select * from a join b using (name)' -q a=failed.query -q b=logins.query auth.log
+rematch-to sql 'select f.*, team from failed f join staff using (user)' -q failed.query --csv staff=staff.csv auth.log
+
+The table of a query has the columns document and line, and of each variable x the columns x (its text), x_start and x_end (in bytes).
+With one query the table is called rows too. time(TEXT, FORMAT) is a time in seconds, by a format as '%b %d %H:%M:%S'."""
+OTHER_FORMS: Dict[str, Form] = {'sql': Form('what a statement of SQL gives over the rows of queries', SQL_EXAMPLES)}
+"""Forms that have words of their own."""
 
 _TABLES, _PLACES = ('csv', 'tsv', 'follow'), ('bed', 'gff', 'fasta')
 _JOBS = ('csv', 'tsv', 'kwic', 'lines', 'count', 'freq', *_PLACES)
@@ -171,7 +181,7 @@ def _filled(text: str) -> str:
 
 
 def _list_of_forms() -> str:
-    return 'forms:\n' + '\n'.join(f'  {name:<8} {form.what}' for name, form in FORMS.items())
+    return 'forms:\n' + '\n'.join(f'  {name:<8} {form.what}' for name, form in {**FORMS, **OTHER_FORMS}.items())
 
 
 def read_words(words: Sequence[str]) -> Words:
@@ -193,7 +203,7 @@ def read_words(words: Sequence[str]) -> Words:
         words = _without_words_of_the_program(words)
     given = parser.parse_intermixed_args(list(words), Words())
     if given.form not in FORMS:
-        parser.error(f'there is no form {given.form!r}: the forms are {", ".join(FORMS)}')
+        parser.error(f'there is no form {given.form!r}: the forms are {", ".join([*FORMS, *OTHER_FORMS])}')
     if given.text is not None and given.name is not None:
         parser.error('the query is given by -e or by -q, and not by both')
     if given.text is None and given.name is None:
@@ -343,7 +353,7 @@ def hint_of_words(words: Sequence[str]) -> Optional[str]:
         return 'rematch-to csv -e QUERY DOC ..; rematch-to --help has all forms'
     if not plain or plain[0] not in FORMS:
         import difflib
-        near = difflib.get_close_matches(plain[0], list(FORMS), 1) if plain else []
+        near = difflib.get_close_matches(plain[0], [*FORMS, *OTHER_FORMS], 1) if plain else []
         if near:
             return f'is {near[0]} meant?'
         if plain and _looks_like_a_query(plain[0]):
