@@ -93,13 +93,27 @@ fn check_query<L: Ledger>(
     requires { IsSound (query_of query.now) }
 {
     let compiled = compile(alloc, query)?;
+    check_documents(alloc, query, &compiled, group, draw, steps)
+}
+
+/// Draws the documents of a query, and checks each.
+fn check_documents<L: Ledger>(
+    alloc: Global,
+    query: &Query,
+    compiled: &Compiled<'_>,
+    group: &Group,
+    draw: &mut Draw,
+    steps: &mut Steps<L>,
+) -> Result<Tally, Fault>
+    requires { IsSound (query_of query.now) }
+{
     let mut tally = Tally::none();
     for _ in 0..DOCUMENTS {
         let document = draw.document(alloc, group.bytes, group.most)?;
         let growing = begin_query(alloc, query, LIMIT, steps)?;
         tally = tally.plus(check_document(
             alloc,
-            &compiled,
+            compiled,
             growing,
             Drawn {
                 document: &document,

@@ -80,10 +80,20 @@ fn open_apart<L: Ledger>(alloc: Global, blank: Blank, document: &[u8]) -> Option
 {
     let mut steps = Steps::<L>::new(blank);
     let query = prepare(alloc)?;
+    open_each(alloc, &query, document, &mut steps)
+}
+
+/// As `open_apart`, by a query that was prepared.
+fn open_each<L: Ledger>(
+    alloc: Global,
+    query: &Prepared<ProgramJudge>,
+    document: &[u8],
+    steps: &mut Steps<L>,
+) -> Option<u64> {
     let mut opened: u64 = 0;
     for line in document.chunks(LINE.len()) {
         if line.len() <= LINE.len() {
-            let _rows = query.open(alloc, line, None, OPTIONS, &mut steps).ok()?;
+            let _rows = query.open(alloc, line, None, OPTIONS, steps).ok()?;
             opened = opened.wrapping_add(1);
         }
     }
@@ -98,21 +108,33 @@ fn open_kept<L: Ledger>(alloc: Global, blank: Blank, document: &[u8]) -> Option<
 {
     let mut steps = Steps::<L>::new(blank);
     let query = prepare(alloc)?;
-    open_lines(alloc, &query, document, &mut steps)
+    open_all(alloc, &query, document, &mut steps)
 }
 
-/// As `open_kept`, by a query that was prepared.
-fn open_lines<L: Ledger>(
+/// As `open_kept`, by a query that was prepared. The cache is dropped here alone.
+fn open_all<L: Ledger>(
     alloc: Global,
     query: &Prepared<ProgramJudge>,
     document: &[u8],
     steps: &mut Steps<L>,
 ) -> Option<u64> {
     let mut cache = Cache::new(alloc, OPTIONS.limit);
+    open_lines(query, &mut cache, document, steps)
+}
+
+/// As `open_all`, with a cache of the query's.
+fn open_lines<L: Ledger>(
+    query: &Prepared<ProgramJudge>,
+    cache: &mut Cache,
+    document: &[u8],
+    steps: &mut Steps<L>,
+) -> Option<u64>
+    requires { IsCacheOf query.now.graph cache.old }
+{
     let mut opened: u64 = 0;
     for line in document.chunks(LINE.len()) {
         if line.len() <= LINE.len() {
-            open_line(query, &mut cache, line, steps)?;
+            open_line(query, cache, line, steps)?;
             opened = opened.wrapping_add(1);
         }
     }

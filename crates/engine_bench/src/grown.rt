@@ -45,7 +45,18 @@ fn grow<L: Ledger>(alloc: Global, blank: Blank, bytes: usize, pieces: u32) -> Op
 {
     let mut steps = Steps::<L>::new(blank);
     let mut growing = begin_text(alloc, &mut steps)?;
-    let rows = append_pieces(alloc, &mut growing, bytes, pieces, &mut steps)?;
+    grow_by(alloc, &mut growing, bytes, pieces, &mut steps)
+}
+
+/// As `grow`, of a document that was begun.
+fn grow_by<L: Ledger>(
+    alloc: Global,
+    growing: &mut Growing,
+    bytes: usize,
+    pieces: u32,
+    steps: &mut Steps<L>,
+) -> Option<Grown> {
+    let rows = append_pieces(alloc, growing, bytes, pieces, steps)?;
     Some(Grown {
         rows,
         live: growing.live(),
