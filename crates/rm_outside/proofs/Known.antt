@@ -1,12 +1,11 @@
 -- Known bytes over several reads or writes.
-use Rattle.std.proofs.Common.{◌≡◌, ◌+◌, ◌-◌, ◌≤◌, ℕ, Bool, true, false, List, [], ◌++◌, length, take, drop, Option, None, Some, sym, ap, ◌∙◌, arith, append-nil, append_assoc, subst}
+use Rattle.std.proofs.Common.{◌≡◌, ◌+◌, ◌-◌, ◌≤◌, ℕ, Bool, true, false, List, [], ◌++◌, length, take, drop, Option, None, Some, sym, ap, ◌∙◌, arith, append-nil}
 use Rattle.std.specs.Prelude.{if◌then◌else◌}
-use Rattle.std.proofs.KnownBytes.{Appends-kept, Appends-trans, Consumes-trans}
+use Rattle.std.proofs.KnownBytes.{Appends-kept, Appends-trans}
 use Rattle.std.proofs.lemmas.List.{length-append, take-append-drop, take-append-le, take-take, take_all, take_rest}
 use Rattle.std.proofs.Math.Seq.{take-add, take-append-add}
 use Rattle.std.specs.Io.KnownBytes.{Appends, Consumes, Keeps}
 use Rattle.rm_outside.specs.Sink.{AppendsPart}
-use Rattle.rm_outside.specs.Taking.{HandsOn}
 
 -- a write of the first bytes, and then one of a part of `&xs[at..]`
 pub appends_take : (a b c : Option (List ℕ)) (at count : ℕ) (xs : List ℕ) → Appends a b (take at xs) →
@@ -59,20 +58,3 @@ in_place start count len old room part rest last front size few within =
     ∙ ap (λ k. take k (old ++ (part ++ rest))) at
     ∙ take-append-add old (part ++ rest) count
     ∙ ap (λ (xs : List ℕ). old ++ xs) (take-append-le count part rest few)
-
--- so many bytes were handed on so far, of those that are left
-pub record HandedSoFar {X : Type 0} (start now : Option (List ℕ)) (before after : X → List ℕ → Type 0) (seen : ℕ) : Type 0 where
-  pub bytes : List ℕ
-  pub count : length bytes ≡ seen
-  pub consumed : Consumes start now bytes
-  pub taken : (x : X) (d : List ℕ) → before x d → after x (d ++ bytes)
-
--- more were, by one read
-pub handed_more : {X : Type 0} (start mid now : Option (List ℕ)) (before between after : X → List ℕ → Type 0) (seen most count : ℕ) →
-    HandedSoFar start mid before between seen → HandsOn most mid now between after count → HandedSoFar start now before after (seen + count)
-handed_more start mid now before between after seen most count h on = record {
-  bytes = h.bytes ++ on.bytes;
-  count = (let all = length-append h.bytes on.bytes in let a = h.count in let b = on.counted in omega (arith, all, a, b));
-  consumed = Consumes-trans start mid now h.bytes on.bytes h.consumed on.consumed;
-  taken = λ x d k. subst (after x) (append_assoc d h.bytes on.bytes) (on.taken x (d ++ h.bytes) (h.taken x d k));
-}

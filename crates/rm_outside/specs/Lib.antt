@@ -2,7 +2,6 @@
 pub mod Faults
 pub mod Told
 pub mod Shelf
-pub mod Taking
 pub mod Flow
 pub mod Sink
 pub mod MemoryShelf

@@ -19,7 +19,6 @@ pub use source::{LineFault, Source};
 pub use status::Status;
 pub use stream_sink::{NoteSink, OutSink};
 pub use streams::{Counting, Reads, Takes};
-pub use taker::Taker;
 
 mod file_shelf;
 mod line_input;
@@ -35,4 +34,3 @@ mod source;
 mod status;
 mod stream_sink;
 mod streams;
-mod taker;

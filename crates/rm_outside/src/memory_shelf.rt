@@ -1,11 +1,10 @@
 //! A shelf in memory, whose fetches can be made to fail.
-ghost use Rattle.std.specs.Prelude.{◌≡◌, ◌≤◌, ◌⊎◌, ◌↔◌, ℕ, List, [], ◌∷◌, None, Some, ◌++◌, length, map, option_map, string_bytes, OnOk, OnErr, IfSome, IsErrOf, Contains, if◌then◌else◌, bytes_eq, ◌<◌, ◌-◌, ◌^◌};
+ghost use Rattle.std.specs.Prelude.{◌≡◌, ◌≤◌, ◌⊎◌, ◌↔◌, ℕ, List, [], ◌∷◌, None, Some, ◌++◌, length, map, option_map, string_bytes, OnOk, OnErr, IfSome, IsErrOf, Contains, if◌then◌else◌, bytes_eq};
 ghost use Rattle.rm_outside.specs.Faults.{Rose, counted};
 ghost use Rattle.rm_outside.specs.Shelf.{Gains, SeenPast, ByLength, CountsFailure};
-ghost use Rattle.rm_outside.specs.Taking.{HandsAll, HandsSome};
 ghost use Rattle.rm_outside.specs.Told.{GrewBy};
 
-use crate::{FetchFault, Shelf, Taker};
+use crate::{FetchFault, Shelf};
 use span_core::OutOfMemory;
 use std::alloc::Global;
 use std::collections::BTreeMap;
@@ -108,41 +107,6 @@ impl Shelf for MemoryShelf {
             None => Err(miss(&mut self.faults)),
         }
     }
-
-    fn fetch_to<T: Taker>(
-        &mut self,
-        name: &str,
-        limit: u64,
-        taker: &mut T,
-    ) -> Result<(), FetchFault>
-        requires limit { limit < 2 ^ 64 - 1 }
-        ensures gains { OnOk result (HandsAll limit (held_of self.old name.now) (λ first d. T.takes first d taker.old) (λ first d. T.takes first d taker.new)) }
-        ensures refused { OnErr result (HandsSome (held_of self.old name.now) (λ first d. T.takes first d taker.old) (λ first d. T.takes first d taker.new)) }
-        ensures seen { SeenPast limit result }
-        ensures by_length { IfSome (held_of self.old name.now) (λ bytes. ByLength limit (length bytes) result) }
-        ensures kept { held_of self.new ≡ held_of self.old }
-        ensures later { (n : List ℕ) → shelf_faults self.old ≤ shelf_faults self.new }
-        ensures failed { IsErrOf result FetchFault.Failed → Rose (shelf_faults self.old) (shelf_faults self.new) }
-        ensures fetched { GrewBy (name.now ∷ []) (fetched_names self.old) (fetched_names self.new) }
-
-        // It fails exactly where it was told to and where the name is not held, and counts that.
-        ensures told_to { IsErrOf result FetchFault.Failed ↔
-            (Contains (failing_fetches self.old) (next_fetch self.old) ⊎ (held_of self.old name.now ≡ None)) }
-        ensures count { CountsFailure (shelf_faults self.old) (shelf_faults self.new) result }
-        ensures turn { next_fetch self.new ≡ counted (next_fetch self.old) }
-        ensures failing { failing_fetches self.new ≡ failing_fetches self.old }
-    {
-        let turn = self.turn;
-        self.turn = turn.saturating_add(1);
-        self.fetched = with_name(self.alloc, self.fetched.take(), name);
-        if self.failing.contains(&turn) {
-            return Err(miss(&mut self.faults));
-        }
-        match self.files.get(name) {
-            Some(bytes) => hand(bytes, limit, taker),
-            None => Err(miss(&mut self.faults)),
-        }
-    }
 }
 
 // The names with one more behind them, or None where there is no memory for it.
@@ -182,22 +146,6 @@ fn append(bytes: &[u8], limit: u64, into: &mut Vec<u8>) -> Result<(), FetchFault
         Ok(()) => Ok(()),
         Err(_) => Err(FetchFault::OutOfMemory),
     }
-}
-
-// Hands all the bytes on, unless they are more than limit.
-fn hand<T: Taker>(bytes: &[u8], limit: u64, taker: &mut T) -> Result<(), FetchFault>
-    ensures ok { OnOk result (HandsAll limit (Some bytes.now) (λ first d. T.takes first d taker.old) (λ first d. T.takes first d taker.new)) }
-    ensures refused { OnErr result (HandsSome (Some bytes.now) (λ first d. T.takes first d taker.old) (λ first d. T.takes first d taker.new)) }
-    ensures seen { SeenPast limit result }
-    ensures by_length { ByLength limit (length bytes.now) result }
-    ensures never { IsErrOf result FetchFault.Failed → ⊥ }
-{
-    let seen = bytes.len() as u64;
-    if seen > limit {
-        return Err(FetchFault::TooLong { seen });
-    }
-    taker.take(bytes);
-    Ok(())
 }
 
 #[cfg(test)]

@@ -1,14 +1,13 @@
 //! A shelf over whatever opens names.
-ghost use Rattle.std.specs.Prelude.{◌≡◌, ◌≤◌, ◌<◌, ◌+◌, ◌++◌, ℕ, List, [], ◌∷◌, None, Some, OnOk, OnErr, IfOk, IfSome, IsErrOf, length, take, vec_len, vec_capacity, ◌-◌, ◌^◌};
+ghost use Rattle.std.specs.Prelude.{◌≡◌, ◌≤◌, ◌<◌, ◌+◌, ◌++◌, ℕ, List, [], ◌∷◌, None, Some, OnOk, OnErr, IfOk, IfSome, IsErrOf, length, take, vec_len, vec_capacity};
 ghost use Rattle.rm_outside.specs.Faults.{Rose};
 ghost use Rattle.rm_outside.specs.Shelf.{Gains, SeenPast, ByLength, CountsFailure};
 ghost use Rattle.rm_outside.specs.Sink.{CountsErr};
 ghost use Rattle.rm_outside.specs.Told.{GrewBy, counts_alone};
 ghost use Rattle.rm_outside.specs.Reading.{ReadsOn};
-ghost use Rattle.rm_outside.specs.Taking.{HandsAll, HandsOn, HandsSome};
 
 use crate::opens::Opens;
-use crate::{FetchFault, Shelf, Taker};
+use crate::{FetchFault, Shelf};
 use std::io;
 
 /// The most bytes that one read asks for.
@@ -54,92 +53,6 @@ impl<O: Opens> Shelf for OpenShelf<O> {
             Ok(mut opened) => read_whole(&mut self.opens, name, &mut opened, limit, into),
             Err(_) => Err(FetchFault::Failed),
         }
-    }
-
-    fn fetch_to<T: Taker>(
-        &mut self,
-        name: &str,
-        limit: u64,
-        taker: &mut T,
-    ) -> Result<(), FetchFault>
-        requires limit { limit < 2 ^ 64 - 1 }
-        ensures gains { OnOk result (HandsAll limit ((O.told self.old.opens).held name.now) (λ first d. T.takes first d taker.old) (λ first d. T.takes first d taker.new)) }
-        ensures refused { OnErr result (HandsSome ((O.told self.old.opens).held name.now) (λ first d. T.takes first d taker.old) (λ first d. T.takes first d taker.new)) }
-        ensures seen { SeenPast limit result }
-        ensures by_length { IfSome ((O.told self.old.opens).held name.now) (λ bytes. ByLength limit (length bytes) result) }
-        ensures kept { (O.told self.new.opens).held ≡ (O.told self.old.opens).held }
-        ensures later { (n : List ℕ) → (O.told self.old.opens).faults n ≤ (O.told self.new.opens).faults n }
-        ensures failed { IsErrOf result FetchFault.Failed →
-            Rose ((O.told self.old.opens).faults name.now) ((O.told self.new.opens).faults name.now) }
-        ensures fetched { GrewBy (name.now ∷ []) (O.told self.old.opens).fetched (O.told self.new.opens).fetched }
-
-        // The name's count rises at a failure alone.
-        ensures count { CountsFailure ((O.told self.old.opens).faults name.now) ((O.told self.new.opens).faults name.now) result }
-    {
-        let mut opened = match self.opens.open(name) {
-            Ok(opened) => opened,
-            Err(_) => return Err(FetchFault::Failed),
-        };
-        hand_pieces(&mut self.opens, name, &mut opened, limit, taker)
-    }
-}
-
-// Hands all that is left in what the name was opened to on, by one buffer. A read of no bytes is the end.
-fn hand_pieces<O: Opens, T: Taker>(
-    opens: &mut O,
-    name: &str,
-    opened: &mut O::Opened,
-    limit: u64,
-    taker: &mut T,
-) -> Result<(), FetchFault>
-    requires limit { limit < 2 ^ 64 - 1 }
-    ensures gains { OnOk result (HandsAll limit (O.Opened.remaining opened.old) (λ first d. T.takes first d taker.old) (λ first d. T.takes first d taker.new)) }
-    ensures refused { OnErr result (HandsSome (O.Opened.remaining opened.old) (λ first d. T.takes first d taker.old) (λ first d. T.takes first d taker.new)) }
-    ensures seen { SeenPast limit result }
-    ensures by_length { IfSome (O.Opened.remaining opened.old) (λ bytes. ByLength limit (length bytes) result) }
-    ensures kept { (O.told opens.new).held ≡ (O.told opens.old).held }
-    ensures later { (n : List ℕ) → (O.told opens.old).faults n ≤ (O.told opens.new).faults n }
-    ensures count { CountsFailure ((O.told opens.old).faults name.now) ((O.told opens.new).faults name.now) result }
-    ensures no_other { (O.told opens.new).fetched ≡ (O.told opens.old).fetched }
-{
-    let mut buffer = [0u8; PIECE];
-    let mut seen = 0u64;
-    while seen <= limit {
-        let most = (limit - seen).min(PIECE as u64 - 1) as usize + 1;
-        match hand_on(opens, name, opened, &mut buffer[..most], taker) {
-            Ok(0) => return Ok(()),
-            Ok(count) => seen += count as u64,
-            Err(_) => return Err(FetchFault::Failed),
-        }
-    }
-    Err(FetchFault::TooLong { seen })
-}
-
-// Hands what one read gives on, at most as many bytes as the buffer has, and tells how many.
-fn hand_on<O: Opens, T: Taker>(
-    opens: &mut O,
-    name: &str,
-    opened: &mut O::Opened,
-    buffer: &mut [u8],
-    taker: &mut T,
-) -> io::Result<usize>
-    requires some { 0 < length buffer.old }
-    ensures handed { IfOk result (HandsOn (length buffer.old) (O.Opened.remaining opened.old) (O.Opened.remaining opened.new)
-        (λ first d. T.takes first d taker.old) (λ first d. T.takes first d taker.new)) }
-    ensures same { OnErr result (taker.new ≡ taker.old) }
-    ensures kept { (O.told opens.new).held ≡ (O.told opens.old).held }
-    ensures later { (n : List ℕ) → (O.told opens.old).faults n ≤ (O.told opens.new).faults n }
-    ensures count { CountsErr ((O.told opens.old).faults name.now) ((O.told opens.new).faults name.now) result }
-    ensures no_other { (O.told opens.new).fetched ≡ (O.told opens.old).fetched }
-{
-    match opens.read(name, opened, buffer) {
-        Ok(count) => {
-            if count > 0 {
-                taker.take(&buffer[..count]);
-            }
-            Ok(count)
-        }
-        Err(error) => Err(error),
     }
 }
 

@@ -1,11 +1,8 @@
 //! A shelf of named documents.
-ghost use Rattle.std.specs.Prelude.{◌≡◌, ◌≤◌, ℕ, List, [], ◌∷◌, ◌++◌, length, OnOk, OnErr, IfSome, IsErrOf, ◌<◌, ◌-◌, ◌^◌};
+ghost use Rattle.std.specs.Prelude.{◌≡◌, ◌≤◌, ℕ, List, [], ◌∷◌, ◌++◌, length, OnOk, OnErr, IfSome, IsErrOf};
 ghost use Rattle.rm_outside.specs.Faults.{Rose};
 ghost use Rattle.rm_outside.specs.Shelf.{Gains, SeenPast, ByLength};
-ghost use Rattle.rm_outside.specs.Taking.{HandsAll, HandsSome};
 ghost use Rattle.rm_outside.specs.Told.{Told, GrewBy};
-
-use crate::Taker;
 
 /// Why a fetch appended nothing.
 #[derive(Clone, Copy, Debug, PartialEq, Eq)]
@@ -30,24 +27,6 @@ pub trait Shelf {
         ensures gains { OnOk result (Gains limit into.old.items into.new.items) }
         ensures whole { OnOk result (IfSome ((told self.old).held name.now) (λ bytes. into.new.items ≡ into.old.items ++ bytes)) }
         ensures refused { OnErr result (into.new.items ≡ into.old.items) }
-        ensures seen { SeenPast limit result }
-        ensures by_length { IfSome ((told self.old).held name.now) (λ bytes. ByLength limit (length bytes) result) }
-        ensures kept { (told self.new).held ≡ (told self.old).held }
-        ensures later { (n : List ℕ) → (told self.old).faults n ≤ (told self.new).faults n }
-        ensures failed { IsErrOf result FetchFault.Failed → Rose ((told self.old).faults name.now) ((told self.new).faults name.now) }
-        ensures fetched { GrewBy (name.now ∷ []) (told self.old).fetched (told self.new).fetched };
-
-    /// Hands all that the name holds to a taker, piece by piece, if that is at most `limit` bytes.
-    /// After an `Err` the taker has taken some of the bytes, from the first on. Whatever comes, the name was fetched once.
-    fn fetch_to<T: Taker>(
-        &mut self,
-        name: &str,
-        limit: u64,
-        taker: &mut T,
-    ) -> Result<(), FetchFault>
-        requires limit { limit < 2 ^ 64 - 1 }
-        ensures gains { OnOk result (HandsAll limit ((told self.old).held name.now) (λ first d. T.takes first d taker.old) (λ first d. T.takes first d taker.new)) }
-        ensures refused { OnErr result (HandsSome ((told self.old).held name.now) (λ first d. T.takes first d taker.old) (λ first d. T.takes first d taker.new)) }
         ensures seen { SeenPast limit result }
         ensures by_length { IfSome ((told self.old).held name.now) (λ bytes. ByLength limit (length bytes) result) }
         ensures kept { (told self.new).held ≡ (told self.old).held }
