@@ -139,6 +139,13 @@ impl Growing {
         self.document.as_slice()
     }
 
+    /// The automaton that reads it.
+    pub fn automaton(&self) -> &Automaton
+        ensures { result.now ≡ self.now.automaton }
+    {
+        &self.automaton
+    }
+
     /// How many cells are live; none where nothing is read any more.
     pub fn live(&self) -> u64
         ensures value { result ≡ self.now.live }

@@ -9,10 +9,10 @@ ghost use Rattle.session_server.specs.Requests.{close_request, grow_request, nex
 ghost use Rattle.session_server.specs.Replies.{IsReply, Reply, Sessions, error_of as error_reply, opened as opened_reply, reply_text};
 ghost use Rattle.session_server.specs.Open.{AreOpen, HasNone, IsFirstPlaceOf, LosesOne, RepliesTo};
 
-use crate::MOST_SESSIONS;
 use crate::replies::{closed, error_of, given, grown, no_request, opened};
 use crate::requests::{OpenRequest, SessionRequest, request_in, value_of};
 use crate::session::{Halt, Session, of_table};
+use crate::{MOST_AUTOMATA, MOST_SESSIONS};
 use note_texts::Refusal;
 use span_core::{OutOfMemory, Steps};
 use span_tests::{Judge, Tests};
@@ -128,7 +128,7 @@ fn open_new<J: Judge, L: Ledger>(
     }
 }
 
-/// Adds a session to those that are open, and tells the variables of its rows.
+/// Adds a session to those that are open, and gives the variables of its rows, unless the automata of all are too large.
 fn put_opened(
     alloc: Global,
     sessions: &mut Vec<Opened>,
@@ -139,6 +139,10 @@ fn put_opened(
     ensures reply { IfOk result (λ s. s.items ≡ reply_text (opened_reply id session.vars)) }
     ensures same { OnErr result (sessions.new.items ≡ sessions.old.items) }
 {
+    if automata_bytes(sessions).saturating_add(session.automaton_bytes()) > MOST_AUTOMATA {
+        give_up(Opened { id, session });
+        return Err(OutOfMemory);
+    }
     let reply = match opened(alloc, id, session.vars()) {
         Ok(reply) => reply,
         Err(OutOfMemory) => {
@@ -153,6 +157,15 @@ fn put_opened(
             Err(OutOfMemory)
         }
     }
+}
+
+/// How many bytes the automata of all sessions take.
+fn automata_bytes(sessions: &[Opened]) -> u64 {
+    let mut bytes: u64 = 0;
+    for opened in sessions {
+        bytes = bytes.saturating_add(opened.session.automaton_bytes());
+    }
+    bytes
 }
 
 /// Drops a session, here alone: what a caller has to prove grows with each of its many fields.

@@ -5,7 +5,7 @@
 #![tactic(auto)]
 
 ghost use Rattle.std.specs.Prelude.{◌≡◌};
-ghost use Rattle.session_server.specs.declared.TheConstants.{MOST_AUTOMATON, MOST_GROWN, MOST_LINE_BYTES, MOST_ROWS_ASKED, MOST_SESSIONS, SESSION_TABLE};
+ghost use Rattle.session_server.specs.declared.TheConstants.{MOST_AUTOMATA, MOST_GROWN, MOST_LINE_BYTES, MOST_ROWS_ASKED, MOST_SESSIONS, SESSION_TABLE};
 
 pub use note_texts::{query_note, size_note, table_note};
 pub use serving::serve;
@@ -33,9 +33,9 @@ pub const MOST_ROWS_ASKED: u64 = 1000;
 /// The greatest weight of the table that a session's document is read with.
 pub const SESSION_TABLE: u64 = 1_000_000;
 
-/// The most bytes that the ways and ends of a session's automaton take: 48 a way and 16 an end. Past it the reply to
-/// `open` is `memory`.
-pub const MOST_AUTOMATON: u64 = 67_108_864;
+/// The most bytes that the ways and the ends of all sessions' automata take together: 48 a way and 16 an end. Past it the
+/// reply to `open` is `memory`.
+pub const MOST_AUTOMATA: u64 = 4_294_967_296;
 
 /// The limits, as numbers: a law.
 pub fn limits()
@@ -44,5 +44,5 @@ pub fn limits()
     ensures grown { MOST_GROWN ≡ 16777216 }
     ensures rows { MOST_ROWS_ASKED ≡ 1000 }
     ensures table { SESSION_TABLE ≡ 1000000 }
-    ensures automaton { MOST_AUTOMATON ≡ 67108864 }
+    ensures automata { MOST_AUTOMATA ≡ 4294967296 }
 {}

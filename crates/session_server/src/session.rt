@@ -18,7 +18,7 @@ ghost use Rattle.session_server.specs.Replies.{Session as Spoken, asking, growin
 ghost use Rattle.session_server.specs.Standing.{GivesOne, GivesPage, HasGiven, IsBegun, IsGrowHalt, IsReadOn, IsRefusal, IsRowsHalt, IsSession, IsSessionOver, IsStartHalt, IsTooHeavy, IsWaiting, halt_of as halt_by};
 
 use crate::json_rows::JsonRows;
-use crate::{MOST_AUTOMATON, MOST_GROWN, SESSION_TABLE};
+use crate::{MOST_GROWN, SESSION_TABLE};
 use growing_document::{GrowFault, Growing};
 use marked_automaton::Automaton;
 use note_texts::{Note, Refusal};
@@ -29,6 +29,12 @@ use spanner_engine::{Answers, Compiled, TestedRows, compile};
 use spanner_model::{Query, Tested};
 use std::alloc::Global;
 use std::sync::ledger::Ledger;
+
+/// How many bytes a way of an automaton takes.
+const WAY_BYTES: u64 = 48;
+
+/// How many bytes an end takes.
+const END_BYTES: u64 = 16;
 
 /// A session that is open.
 #[derive(Drop)]
@@ -83,6 +89,14 @@ impl Session {
         ensures { result.now ≡ self.now.vars }
     {
         &self.vars
+    }
+
+    /// How many bytes the ways and the ends of its automaton take.
+    pub(crate) fn automaton_bytes(&self) -> u64 {
+        let automaton = self.growing.automaton();
+        let ways = (automaton.ways().len() as u64).saturating_mul(WAY_BYTES);
+        let ends = (automaton.stops().len() as u64).saturating_mul(END_BYTES);
+        ways.saturating_add(ends)
     }
 
     /// Gives the next rows, so many at most; from the first on where the document has grown.
@@ -362,18 +376,6 @@ fn all_of<L: Ledger>(
     }
 }
 
-/// How many bytes a way takes, and an end.
-const WAY_BYTES: u64 = 48;
-
-const END_BYTES: u64 = 16;
-
-/// Whether the ways and ends take more memory than those of a session may.
-fn is_large(automaton: &Automaton) -> bool {
-    let ways = (automaton.ways().len() as u64).saturating_mul(WAY_BYTES);
-    let ends = (automaton.stops().len() as u64).saturating_mul(END_BYTES);
-    ways.saturating_add(ends) > MOST_AUTOMATON
-}
-
 /// A document that is read by this automaton, with its rows.
 fn read_by<L: Ledger>(
     alloc: Global,
@@ -388,9 +390,6 @@ fn read_by<L: Ledger>(
     ensures wide { IfOk result (λ b. b.1.variables ≡ length automaton.names) }
     ensures halted { IfErr result (λ h. (q : QueryTree) → IsCompiled q automaton → IsStartHalt q document.items h) }
 {
-    if is_large(&automaton) {
-        return Err(Halt::OutOfMemory);
-    }
     let mut growing = match Growing::new(alloc, automaton, SESSION_TABLE, steps) {
         Ok(growing) => growing,
         Err(fault) => return Err(halt_of(fault)),
