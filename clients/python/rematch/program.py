@@ -4,11 +4,11 @@ from __future__ import annotations
 import os
 import subprocess
 from shutil import which
-from typing import IO, Iterator, List, Optional, Sequence, Union
+from typing import Dict, IO, Iterator, List, Optional, Sequence, Union
 
 from .faults import ProgramError, ProgramNotFound, error_of
 
-__all__ = ['find_program', 'Run']
+__all__ = ['environment', 'find_program', 'Run']
 
 _PIECE = 1 << 17  # bytes that are asked of the pipe at once
 _MOST_WORD = 100_000  # bytes of a query that is given as a word of the command line
@@ -39,13 +39,18 @@ def _of_checkout(root: str) -> str:
         raise ProgramNotFound('not in a checkout')
     if _is_program(unpacked) and os.path.isfile(stamp) and os.stat(stamp).st_mtime >= os.stat(sources).st_mtime:
         return unpacked
-    environment = {key: value for key, value in os.environ.items() if key != 'REMATCH_BUILD'}
-    done = subprocess.run([script], env={**environment, 'REMATCH_WHERE': '1'}, stdin=subprocess.DEVNULL,
+    others = {key: value for key, value in os.environ.items() if key != 'REMATCH_BUILD'}
+    done = subprocess.run([script], env={**others, 'REMATCH_WHERE': '1'}, stdin=subprocess.DEVNULL,
                           stdout=subprocess.PIPE, stderr=subprocess.PIPE)
     found = os.fsdecode(done.stdout.rstrip(b'\n'))
     if done.returncode or not _is_program(found):
         raise ProgramNotFound(done.stderr.decode('utf-8', 'replace').strip().rpartition('\n')[2])
     return found
+
+
+def environment() -> Dict[str, str]:
+    """What the program is run with: glibc asks for pages of 2 MB, unless the user has set its tunables."""
+    return {'GLIBC_TUNABLES': 'glibc.malloc.hugetlb=1', **os.environ}
 
 
 def find_program() -> str:
@@ -109,7 +114,7 @@ class Run:
         given += words
         try:
             return subprocess.Popen(given, bufsize=0, stdin=subprocess.DEVNULL if document is None else document,
-                                    stdout=subprocess.PIPE, stderr=subprocess.PIPE, pass_fds=() if held is None else (held,))
+                                    stdout=subprocess.PIPE, stderr=subprocess.PIPE, pass_fds=() if held is None else (held,), env=environment())
         except OSError as fault:
             raise ProgramNotFound(f'the program {program} cannot be run: {fault.strerror}') from fault
         finally:

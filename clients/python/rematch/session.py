@@ -15,7 +15,7 @@ from typing import Any, Dict, Iterable, Iterator, List, Optional, Set, Union
 from .documents import BEGINS, Document
 from .faults import DocumentError, OutOfMemory, ProgramError, ProgramNotFound, QueryError, RematchError, SizeError, error_of
 from .match import Match, Matches, Row, Variables
-from .program import find_program
+from .program import environment, find_program
 
 __all__ = ['Server', 'Served', 'Session', 'SessionError']
 
@@ -107,7 +107,7 @@ class Server:
     def _start(self) -> None:
         try:
             self._process = subprocess.Popen([self.program, '--serve'], stdin=subprocess.PIPE, stdout=subprocess.PIPE,
-                                             stderr=subprocess.PIPE)
+                                             stderr=subprocess.PIPE, env=environment())
         except OSError as fault:
             raise ProgramNotFound(f'the program {self.program} cannot be run: {fault.strerror}') from fault
         self._lost = None

@@ -13,7 +13,7 @@ from threading import Timer
 from typing import IO, Any, Dict, Iterator, List, Optional, Tuple
 
 from ..faults import ProgramNotFound, error_of
-from ..program import find_program
+from ..program import environment, find_program
 from ..session import LONGEST_REQUEST, refusal
 from .command import run_told
 
@@ -84,7 +84,8 @@ class Relay:
 
     def _begin(self) -> 'subprocess.Popen[bytes]':
         try:
-            self._process = subprocess.Popen([self.program, '--serve'], stdin=subprocess.PIPE, stdout=subprocess.PIPE, stderr=subprocess.PIPE)
+            self._process = subprocess.Popen([self.program, '--serve'], stdin=subprocess.PIPE, stdout=subprocess.PIPE, stderr=subprocess.PIPE,
+                                             env=environment())
         except OSError as fault:
             raise ProgramNotFound(f'the program {self.program} cannot be run: {fault.strerror}') from fault
         return self._process
