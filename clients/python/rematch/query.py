@@ -344,12 +344,12 @@ class Query(Variables):
 
         ``source`` is an open binary file, which ends by itself, or a path, also as a ``str``, which is looked at every ``wait``
         seconds. Following a path ends when ``quiet`` seconds brought nothing new, or where ``until`` is true then; with
-        ``from_end`` the whole lines that are there are passed over. Where another file has the name, or it has become
-        shorter, it is read from its start.
+        ``from_end`` the rows that the file already has are not given. Where another file has the name, or the file was cut,
+        it is read from its start, also where it was filled again past its old length.
 
         Whole lines are searched, with as many before them as the query reaches, so that each step costs what is new; `NoReach`
-        tells why a query has no reach. Each row is given once. Of a query with ``minus`` that reaches over lines, a row comes
-        when as many lines stand behind it. What has no line feed is searched at the end.
+        says why a query has no reach. Each row is given once. Of a query with ``minus`` a row comes when as many lines follow
+        it as the query reaches. What has no line feed is searched at the end.
 
         >>> import io
         >>> [(match.span('x'), match['x']) for match in Query('/!x{[0-9]+} up/').follow(io.BytesIO(b'7 up, 8 up'))]

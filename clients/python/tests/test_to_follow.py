@@ -1,66 +1,14 @@
-"""rematch-to follow: each row of a growing document once, and files that grow, are cut, replaced or away."""
+"""rematch-to follow: files that grow, are cut, replaced or away, as a table."""
 import gzip
 import os
-import random
 import subprocess
 import sys
 import threading
 import time
 import unittest
 
-import rematch
-from rematch.pieces import reach
-from rematch.to.follow import Growing
 from support import PYTHON, Folder, needs_speed
 from commands import asked
-
-QUERIES = (r'/!x{a}b/', r'/!x{a}\n!y{b}/', r'/!x{a+}[^\n]*\n[^\n]*\n?!y{b}/', r'/!x{\n}/', r'/!x{}\n/',
-           r'/!x{a}/ union /!y{b}\n/', r'/!x{a}[ab]!y{}/ join /!y{}b/',
-           r'/!x{a}/ minus /!x{a}b/', r'/!x{a}b?/ minus /!x{a}\nb/', r'/!x{a}/ minus /b\n!x{a}/',
-           r'/!x{a[^b]?}/ minus /!x{a}(.|\n){0,2}b/',
-           r'/(\n[^\n]*){0,2}!x{ab?}/')
-
-
-class Grown(unittest.TestCase):
-    def check(self, query, data, cuts):
-        wanted = list(query.rows(data))
-        growing = Growing(query, reach(query))
-        found, most = [], 0
-        for start, end in zip([0] + cuts, cuts + [len(data)]):
-            found += growing.grow(data[start:end])
-            most = max(most, growing.window.count(b'\n'))
-        found += growing.end()
-        self.assertEqual(sorted(found), sorted(wanted), (query, data, cuts))
-        self.assertEqual(len(found), len(set(found)))
-        return found
-
-    def test_rows_are_those_of_the_whole(self):
-        pick = random.Random(8)
-        for text in QUERIES:
-            query = rematch.Query(text)
-            for _ in range(6):
-                data = bytes(pick.choice(b'aab\n\n') for _ in range(pick.randrange(16)))
-                self.check(query, data, sorted(pick.randrange(len(data) + 1) for _ in range(pick.randrange(4))))
-
-    def test_a_row_is_given_when_its_line_ends(self):
-        growing = Growing(rematch.Query(r'/!x{a}b/'), 0)
-        self.assertEqual([growing.grow(part) for part in (b'ab', b'\n', b'ab\nab\na')], [[], [(0, 1)], [(3, 4), (6, 7)]])
-        self.assertEqual(growing.end(), [])
-
-    def test_a_row_that_may_be_taken_away_waits(self):
-        query = rematch.Query(r'/!x{a}/ minus /!x{a}\nb/')
-        growing = Growing(query, reach(query))
-        self.assertEqual([growing.grow(part) for part in (b'a\n', b'b\n', b'a\n', b'a\n')], [[], [], [], [(4, 5)]])
-        self.assertEqual(growing.end(), [(6, 7)])
-
-    def test_little_is_kept(self):
-        """Each line costs the same: what is searched anew are the lines that a row can reach."""
-        query = rematch.Query(r'/!x{a}\n!y{b}/')
-        growing = Growing(query, reach(query))
-        for k in range(60):
-            growing.grow(b'a\n' if k % 2 else b'b\n')
-            self.assertLessEqual(growing.window.count(b'\n'), 3)
-        self.assertEqual(growing.start + len(growing.window), 120)
 
 
 class Followed(Folder):
@@ -108,6 +56,17 @@ class Followed(Folder):
         self.assertEqual(asked('follow', '--from-start', '--idle', '0', '-e', '/!x{a.}/', '--texts', path),
                          (0, 'document,line,x\n{0},1,a0\n{0},3,a1\n'.format(path), ''))
         self.assertEqual(asked('follow', '--idle', '0', '-e', '/!x{a.}/', '--texts', path)[:2], (0, 'document,line,x\n'))
+
+    def test_what_stands_before_is_known(self):
+        """From the end of a file, also of one that ends within a line."""
+        for query, before, after, wanted in (('/!x{b}/ minus /a\\n!x{b}/', b'a\n', b'b\n', []), ('/!y{a}\\n!x{b}/', b'a\n', b'b\n', ['1,2,b']),
+                                             ('/!x{ab}/', b'z\nab\na', b'b\n', ['3,5,ab'])):
+            path = self.file('d', before)
+            run = self.follow(path, '--idle', '2', query=query)
+            time.sleep(0.3)
+            self.grow(path, after)
+            self.assertEqual(run.stdout.read().decode().splitlines(), wanted, query)
+            run.wait()
 
     def test_a_file_that_grows_here(self):
         path = self.file('d', b'')
