@@ -1,22 +1,17 @@
-"""How many line feeds what a row's fits cover together can have, from the printed form of a query.
+"""How many line feeds, or bytes, what a row's fits cover together can have.
 
 A document may be cut at line ends and its pieces searched apart where there is such a bound. There is none with an anchor,
 with a repeat over line feeds that has no end, and with a join whose parts share no variable.
-
-The printed form is over bytes, each class a set of them, so whether something fits a line feed is seen at once.
 """
 from __future__ import annotations
 
-import re
-from typing import Dict, FrozenSet, List, NamedTuple, Optional
+from typing import Callable, Dict, FrozenSet, List, NamedTuple, Optional
 
-from .formula import Atom, Part, parts_of, repeat_of
+from .reader import read
+from .tree import Atom, Choice, Concatenation, Expression, Formula, Minus, Name, One, Project, Query, Repeat, Union_, captures_of
 
-__all__ = ['NoReach', 'length_of_printed', 'reach_of_printed']
+__all__ = ['NoReach', 'do_fits_touch', 'length_of_printed', 'reach_of_printed']
 
-_TOKEN = re.compile(rb'\s*(?:(?P<atom>/(?:[^\\/]|\\.)*/)|(?P<word>[A-Za-z_]\w*)|(?P<sign>[();=,]))', re.S)
-_ESCAPES = {b'\\n': 10, b'\\t': 9, b'\\r': 13}
-_LINE_FEED = 10
 _NO_END = float('inf')
 
 
@@ -25,7 +20,7 @@ class NoReach(ValueError):
 
 
 class _Sized(NamedTuple):
-    """The most line feeds that the fits of a row of an expression cover together, and its variables."""
+    """The most line feeds or bytes that the fits of a row of an expression cover together, and its variables."""
 
     most: float
     names: FrozenSet[bytes]
@@ -41,7 +36,7 @@ def reach_of_printed(printed: bytes) -> int:
       ...
     rematch._reach.NoReach: an anchor ties the formula /^!x{a}/ to an end of the document
     """
-    return _Query(printed).reach()
+    return _Reach(read(printed, is_limited=False), lambda one: float(one.fits_line_feed)).of_all('a repeat over line feeds has no end, as of [^"]* or (.|\\n)*')
 
 
 def length_of_printed(printed: bytes) -> int:
@@ -54,152 +49,82 @@ def length_of_printed(printed: bytes) -> int:
       ...
     rematch._reach.NoReach: a repeat has no end
     """
-    return _Query(printed, are_bytes=True).reach()
+    return _Reach(read(printed, is_limited=False), lambda one: 1.0).of_all('a repeat has no end')
 
 
-class _Query:
-    def __init__(self, printed: bytes, *, are_bytes: bool = False) -> None:
-        self.are_bytes = are_bytes  # whether all bytes are counted, and not the line feeds alone
-        self.tokens: List[bytes] = [found[0].strip() for found in _TOKEN.finditer(printed)]
-        self.place = 0
+def do_fits_touch(query: Query) -> bool:
+    """Whether the fits of a row touch one another, since the parts of each join share variables; anchors are not looked at.
+
+    >>> do_fits_touch(read('/^!x{a*}/ join /!x{.}!y{b}/')), do_fits_touch(read('/!x{a}/ join /!y{b}/'))
+    (True, False)
+    """
+    try:
+        _Reach(query, lambda one: 0.0, has_anchors=True).of_all('')
+    except NoReach:
+        return False
+    return True
+
+
+class _Reach:
+    """The measures of a query in the program's own form, whose formulas are over bytes."""
+
+    def __init__(self, query: Query, weight: Callable[[One], float], *, has_anchors: bool = False) -> None:
+        self.query = query
+        self.weight = weight  # what a sign or class counts
+        self.has_anchors = has_anchors  # whether a formula may have anchors
         self.lets: Dict[bytes, _Sized] = {}
 
-    def peek(self) -> bytes:
-        return self.tokens[self.place] if self.place < len(self.tokens) else b''
-
-    def take(self) -> bytes:
-        self.place += 1
-        return self.tokens[self.place - 1]
-
-    def reach(self) -> int:
-        while self.peek() == b'let' and self.tokens[self.place + 2] == b'=':
-            self.take()
-            name = self.take()
-            self.take()
-            self.lets[name] = self.expression()
-            self.take()
-        most = self.expression().most  # tests of spans behind it reach nowhere
+    def of_all(self, no_end: str) -> int:
+        for let in self.query.lets:
+            self.lets[let.name] = self.of(let.expression)
+        most = self.of(self.query.body).most  # tests of spans reach nowhere
         if most == _NO_END:
-            raise NoReach('a repeat has no end' if self.are_bytes
-                          else 'a repeat over line feeds has no end, as of [^"]* or (.|\\n)*')
+            raise NoReach(no_end)
         return int(most)
 
-    def expression(self) -> _Sized:
-        found = self.joined()
-        while self.peek() in (b'union', b'minus'):
-            is_union = self.take() == b'union'
-            part = self.joined()
-            found = _Sized(max(found.most, part.most), found.names | part.names if is_union else found.names)
-        return found
+    def of(self, expression: Expression) -> _Sized:
+        if isinstance(expression, Atom):
+            return self.of_atom(expression)
+        if isinstance(expression, Name):
+            return self.lets[expression.name]
+        if isinstance(expression, Project):
+            found = self.of(expression.inner)
+            return found._replace(names=found.names & set(expression.names))
+        if isinstance(expression, Minus):
+            left, right = self.of(expression.left), self.of(expression.right)
+            return _Sized(max(left.most, right.most), left.names)
+        parts = [self.of(part) for part in expression.parts]
+        if isinstance(expression, Union_):
+            return _Sized(max(part.most for part in parts), frozenset().union(*(part.names for part in parts)))
+        return _joined(parts)
 
-    def joined(self) -> _Sized:
-        found = self.unit()
-        waiting: List[_Sized] = []
-        while self.peek() == b'join':
-            self.take()
-            waiting.append(self.unit())
-        while waiting:
-            # A variable that two parts share is in each of their fits, so that these touch.
-            part: Optional[_Sized] = next((part for part in waiting if part.names & found.names), None)
-            if part is None:
-                raise NoReach('parts of a join share no variable, so they may be any number of lines apart')
-            waiting.remove(part)
-            found = _Sized(found.most + part.most, found.names | part.names)
-        return found
-
-    def unit(self) -> _Sized:
-        token = self.take()
-        if token.startswith(b'/'):
-            return _Formula(token, self.are_bytes).sized()
-        if token == b'(':
-            found = self.expression()
-            self.take()
-            return found
-        if token == b'project':
-            kept = set()
-            while self.peek() != b'(':
-                kept.add(self.take())
-            self.take()
-            found = self.expression()
-            self.take()
-            return _Sized(found.most, found.names & kept)
-        return self.lets[token]
-
-
-class _Formula:
-    def __init__(self, printed: bytes, are_bytes: bool) -> None:
-        self.are_bytes = are_bytes
-        self.parts = parts_of(Atom(printed[1:-1], 1, False))
-        self.printed = printed
-        self.place = 0
-        self.names: FrozenSet[bytes] = frozenset()
-
-    def sized(self) -> _Sized:
-        if any(part.kind == 'anchor' for part in self.parts):
-            shown = self.printed if len(self.printed) < 60 else self.printed[:56] + b'../'
+    def of_atom(self, atom: Atom) -> _Sized:
+        if (atom.is_first or atom.is_last) and not self.has_anchors:
+            text = self.query.text[atom.start:atom.end]
+            shown = text if len(text) < 60 else text[:56] + b'../'
             raise NoReach(f'an anchor ties the formula {shown.decode("ascii", "backslashreplace")} to an end of the document')
-        return _Sized(self.arms(), self.names)
+        return _Sized(self.of_formula(atom.formula), frozenset(capture.name for capture in captures_of(atom.formula)))
 
-    def peek(self) -> Optional[Part]:
-        return self.parts[self.place] if self.place < len(self.parts) else None
-
-    def arms(self) -> float:
-        most = self.sequence()
-        part = self.peek()
-        while part is not None and part.kind == 'bar':
-            self.place += 1
-            most = max(most, self.sequence())
-            part = self.peek()
-        return most
-
-    def sequence(self) -> float:
-        most = 0.0
-        part = self.peek()
-        while part is not None and part.kind not in ('bar', 'close'):
-            most += self.repeated(self.one(part))
-            part = self.peek()
-        return most
-
-    def repeated(self, most: float) -> float:
-        part = self.peek()
-        if part is None or part.kind != 'repeat':
-            return most
-        self.place += 1
-        times = repeat_of(part.text)[1]
-        return most * times if most and times else 0
-
-    def one(self, part: Part) -> float:
-        self.place += 1
-        if part.kind in ('open', 'capture'):
-            if part.kind == 'capture':
-                self.names |= {part.text[1:-1]}
-            most = self.arms()
-            self.place += 1
-            return most
-        if self.are_bytes:
-            return 1.0
-        if part.kind == 'class':
-            return float(_has_line_feed(part.text))
-        return float(part.kind != 'dot' and byte_of(part.text) == _LINE_FEED)
+    def of_formula(self, formula: Formula) -> float:
+        if isinstance(formula, One):
+            return self.weight(formula)
+        if isinstance(formula, Concatenation):
+            return sum(self.of_formula(part) for part in formula.parts)
+        if isinstance(formula, Choice):
+            return max(self.of_formula(arm) for arm in formula.arms)
+        if isinstance(formula, Repeat):
+            most, times = self.of_formula(formula.inner), _NO_END if formula.most is None else formula.most
+            return most * times if most and times else 0.0
+        return self.of_formula(formula.inner)  # type: ignore[union-attr]
 
 
-def byte_of(sign: bytes) -> int:
-    """The byte that a sign of the printed form stands for."""
-    if sign in _ESCAPES:
-        return _ESCAPES[sign]
-    return int(sign[2:], 16) if sign.startswith(b'\\x') else sign[-1]
-
-
-def _has_line_feed(text: bytes) -> bool:
-    """Whether a class of the printed form, whose runs ascend, has the line feed."""
-    signs = re.findall(rb'\\x[0-9a-f]{2}|\\.|.', text[1:-1], re.S)
-    at = 0
-    while at < len(signs):
-        low = high = byte_of(signs[at])
-        if at + 2 < len(signs) and signs[at + 1] == b'-':
-            high = byte_of(signs[at + 2])
-            at += 2
-        at += 1
-        if low <= _LINE_FEED <= high:
-            return True
-    return False
+def _joined(parts: List[_Sized]) -> _Sized:
+    """The measure of a join: a variable that two parts share is in each of their fits, so that these touch."""
+    found, waiting = parts[0], parts[1:]
+    while waiting:
+        part: Optional[_Sized] = next((part for part in waiting if part.names & found.names), None)
+        if part is None:
+            raise NoReach('parts of a join share no variable, so they may be any number of lines apart')
+        waiting.remove(part)
+        found = _Sized(found.most + part.most, found.names | part.names)
+    return found

@@ -1,10 +1,11 @@
 """What is accepted and is yet seldom meant. It is told beside an answer, and never in its place."""
 from __future__ import annotations
 
-import re
-from typing import Callable, List, NamedTuple, Optional, Sequence, Union
+from typing import Callable, List, NamedTuple, Optional, Sequence, Set, Union
 
-from .formula import Atom, Part, atoms_of, parts_of, repeat_of
+from .reader import read
+from .tree import (Atom, Capture, Choice, Concatenation, Formula, Group, Join, Minus, Name, One, Query, Repeat, captures_of, expressions_of, nodes_of,
+                   ones_of)
 
 __all__ = ['Advice', 'advise', 'is_of_rows']
 
@@ -30,20 +31,17 @@ def advise(text: Union[str, bytes]) -> List[Advice]:
     >>> advise(r'/from !address{[\d.]+} port/')
     []
     """
-    query = text if isinstance(text, bytes) else text.encode('utf-8', 'surrogateescape')
-    found: List[Advice] = []
-    atoms = [(atom, parts_of(atom)) for atom in atoms_of(query)]
-    if not any(part.kind == 'capture' for _, parts in atoms for part in parts):
-        found.append(Advice(0, _NO_CAPTURE))
+    query = read(text, is_limited=False)
+    expressions = [found for whole in (*(let.expression for let in query.lets), query.body) for found in expressions_of(whole)]
+    found = [] if any(True for atom in query.atoms for _ in captures_of(atom.formula)) else [Advice(0, _NO_CAPTURE)]
     # What another atom says of a capture's surroundings is not looked at, so nothing is said of them then.
-    words = set(re.findall(rb'\w+', re.sub(rb'/(?:[^\\/]|\\.)*/', b'', query)))
-    rules = [rule for rule in _RULES if rule not in _OF_ONE_ATOM or not words & {b'join', b'minus'}]
-    if any(part.kind == 'anchor' for _, parts in atoms for part in parts):
-        rules = [rule for rule in rules if rule not in _OF_THE_ENDS]
-    found += _lets(query, [atom for atom, _ in atoms])
-    for atom, parts in atoms:
+    is_alone = not any(isinstance(one, (Join, Minus)) for one in expressions)
+    has_ends = any(atom.is_first or atom.is_last for atom in query.atoms)
+    rules = [rule for rule in _RULES if (is_alone or rule not in _OF_ONE_ATOM) and not (has_ends and rule in _OF_THE_ENDS)]
+    found += _lets(query, {one.name for one in expressions if isinstance(one, Name)})
+    for atom in query.atoms:
         for rule in rules:
-            told = rule(atom, parts)
+            told = rule(atom)
             if told is not None and told.message not in {advice.message for advice in found}:
                 found.append(told)
     return found
@@ -58,128 +56,155 @@ def is_of_rows(advice: Advice) -> bool:
     return advice.message == _NO_CAPTURE or ' is a row too: ' in advice.message
 
 
-_STRIPPED = re.compile(rb'/(?:[^\\/]|\\.)*/', re.S)
-_LET = re.compile(rb'\blet\s+(\w+)\s*=')
-
-
-def _lets(query: bytes, atoms: Sequence[Atom]) -> List[Advice]:
-    """Of each let that is used nowhere: whether its name stands in braces in a formula, where it is so many letters."""
-    outside = _STRIPPED.sub(lambda atom: b' ' * len(atom[0]), query)
+def _lets(query: Query, used: Set[bytes]) -> List[Advice]:
+    """Of each let that is used nowhere: whether its name is all that a capture has, where it is so many letters."""
     found: List[Advice] = []
-    for let in _LET.finditer(outside):
-        name = let[1]
-        if len(re.findall(rb'\b%s\b' % re.escape(name), outside)) > 1:
+    captures = [capture for atom in query.atoms for capture in captures_of(atom.formula)]
+    for let in query.lets:
+        if let.name in used:
             continue
-        shown = name.decode()
-        within = next((atom for atom in atoms if b'{' + name + b'}' in atom.text), None)
+        name = let.name.decode()
+        within = next((capture for capture in captures if query.text[capture.inner.start:capture.inner.end] == let.name), None)
         if within is None:
-            found.append(Advice(let.start(1), f'{shown} is used nowhere'))
+            found.append(Advice(let.start, f'{name} is used nowhere'))
         else:
-            found.append(Advice(within.offset + within.text.index(b'{' + name + b'}') + 1,
-                                f'in a formula {shown} is these letters: a let names a query, which is joined with another, and not a part of a formula'))
+            found.append(Advice(within.inner.start, f'in a formula {name} is these letters: a let names a query, which is joined with another, and not a '
+                                                    'part of a formula'))
     return found
 
 
-def _plain_words(atom: Atom, parts: Sequence[Part]) -> Optional[Advice]:
-    for part in parts:
-        if part.text in (rb'\<', rb'\>'):
-            return Advice(part.offset, r'\< and \> are the plain signs: a word is made whole by [^\w] before and after its capture')
+def _plain_words(atom: Atom) -> Optional[Advice]:
+    for one in ones_of(atom.formula):
+        if one.text in (rb'\<', rb'\>'):
+            return Advice(one.start, r'\< and \> are the plain signs: a word is made whole by [^\w] before and after its capture')
     return None
 
 
-def _named_class(atom: Atom, parts: Sequence[Part]) -> Optional[Advice]:
-    for part in parts:
-        if part.kind == 'class' and re.fullmatch(rb'\[\^?:\w+:\]', part.text):
-            return Advice(part.offset, r'[:name:] is the set of these letters: write \d, [A-Za-z], or \p{..} with the sign u')
+def _named_class(atom: Atom) -> Optional[Advice]:
+    for one in ones_of(atom.formula):
+        letters = [chr(item.low) if item.low == item.high >= 0 else '' for item in one.items] if one.kind == 'class' else []
+        if len(letters) > 2 and letters[0] == letters[-1] == ':' and all(letter.isalpha() for letter in letters[1:-1]):
+            return Advice(one.start, r'[:name:] is the set of these letters: write \d, [A-Za-z], or \p{..} with the flag u')
     return None
 
 
-_UNITS = ('class', 'dot', 'escape', 'literal')
+class _Edge(NamedTuple):
+    """What is first or last in a formula, and whether a capture begins or ends there too."""
+
+    part: Optional[Formula]
+    is_captured: bool
 
 
-def _is_open(repeat: Part) -> bool:
-    return repeat.kind == 'repeat' and repeat_of(repeat.text)[1] > 1
+def _edge(formula: Formula, at: int) -> _Edge:
+    """What is first (0) or last (-1) in a formula, in the groups, captures and arms that are there."""
+    is_captured = False
+    while True:
+        if isinstance(formula, Concatenation):
+            if not formula.parts:
+                return _Edge(None, is_captured)
+            formula = formula.parts[at]
+        elif isinstance(formula, Choice):
+            formula = formula.arms[at]
+        elif isinstance(formula, (Group, Capture)):
+            is_captured = is_captured or isinstance(formula, Capture)
+            formula = formula.inner
+        else:
+            return _Edge(formula, is_captured)
 
 
-def _open_start(atom: Atom, parts: Sequence[Part]) -> Optional[Advice]:
-    at = 0
-    while at < len(parts) and parts[at].kind in ('capture', 'open'):
-        at += 1
-    inner = parts[at:at + 2]
-    if len(inner) == 2 and inner[0].kind in _UNITS and _is_open(inner[1]) and 'capture' in {part.kind for part in parts[:at]}:
-        return Advice(inner[0].offset, 'a repeat stands first in the formula with nothing before it, so each later beginning is a row too: '
-                      'say what stands before it')
+def _is_open_run(part: Optional[Formula]) -> bool:
+    """Whether it is a sign or a class that may be there more than once."""
+    return isinstance(part, Repeat) and isinstance(part.inner, One) and part.is_open
+
+
+def _open_start(atom: Atom) -> Optional[Advice]:
+    edge = _edge(atom.formula, 0)
+    if atom.is_first or edge.part is None or not edge.is_captured or not _is_open_run(edge.part):
+        return None
+    return Advice(edge.part.start, 'a repeat is first in the formula with nothing before it, so each later beginning is a row too: say what is before it')
+
+
+def _open_end(atom: Atom) -> Optional[Advice]:
+    edge = _edge(atom.formula, -1)
+    if atom.is_last or edge.part is None or not edge.is_captured or not _is_open_run(edge.part):
+        return None
+    return Advice(edge.part.start, 'a repeat is last in the formula with nothing after it, so each earlier end is a row too: say what is after it')
+
+
+def _parts(atom: Atom) -> Sequence[Formula]:
+    """The parts of a formula that has no arms."""
+    return atom.formula.parts if isinstance(atom.formula, Concatenation) else ()
+
+
+def _first_line(atom: Atom) -> Optional[Advice]:
+    parts = _parts(atom)
+    if parts and isinstance(parts[0], One) and parts[0].number == 10:
+        return Advice(parts[0].start, r'\n is first, and the first line of a document has none before it: write ^ in its place, and m after the closing slash')
     return None
 
 
-def _open_end(atom: Atom, parts: Sequence[Part]) -> Optional[Advice]:
-    at = len(parts)
-    while at and parts[at - 1].kind == 'close':
-        at -= 1
-    inner = parts[max(0, at - 2):at]
-    if len(inner) == 2 and inner[0].kind in _UNITS and _is_open(inner[1]) and b'}' in {part.text for part in parts[at:]}:
-        return Advice(inner[0].offset, 'a repeat stands last in the formula with nothing behind it, so each earlier end is a row too: '
-                      'say what stands behind it')
-    return None
+def _is_negated_class(part: Formula) -> bool:
+    return isinstance(part, One) and part.is_negated
 
 
-def _first_line(atom: Atom, parts: Sequence[Part]) -> Optional[Advice]:
-    if parts and parts[0].text in (rb'\n', rb'\x0a', rb'\x0A', b'\n'):
-        return Advice(parts[0].offset, r'\n stands first, and the first line of a document has none before it: add a union with ^ in its place')
-    return None
-
-
-def _edges(atom: Atom, parts: Sequence[Part]) -> Optional[Advice]:
-    at = None
-    if len(parts) > 1 and parts[0].text.startswith(b'[^') and parts[1].kind == 'capture':
+def _edges(atom: Atom) -> Optional[Advice]:
+    parts, at = _parts(atom), None
+    if len(parts) > 1 and _is_negated_class(parts[0]) and isinstance(parts[1], Capture):
         at = parts[0]
-    elif len(parts) > 1 and parts[-1].text.startswith(b'[^') and parts[-2].text == b'}':
+    elif len(parts) > 1 and _is_negated_class(parts[-1]) and isinstance(parts[-2], Capture):
         at = parts[-1]
     if at is None:
         return None
-    return Advice(at.offset, 'something must stand beside the capture, so what stands at the very start or end of the document is not '
-                  'found: add a union with ^ or $ in its place')
+    return Advice(at.start, 'the formula needs a byte beside the capture, so nothing is found at the very start or end of the document: add a union with ^ or '
+                            r'$ in its place, or write \b there')
 
 
-_FIELD = re.compile(rb'[ ,;:=&]|\\[t|]|\|')  # what stands between fields; a class that leaves out ends of sentences is of texts
-_SENTENCE = re.compile(rb'[.!?]|\\[.wd]')
-_LETTERS = re.compile(rb'\[\^[A-Z]+\]')
+_BETWEEN_FIELDS = frozenset(b' ,;:=&\t|')  # a class that leaves out ends of sentences is of texts
+_OF_SENTENCES = frozenset(b'.!?')
 
 
-def _line_feeds(atom: Atom, parts: Sequence[Part]) -> Optional[Advice]:
-    for part, behind in zip(parts, [*parts[1:], None]):
-        if part.kind != 'class' or not part.text.startswith(b'[^') or re.search(rb'\\n|\\s|\\x0[aA]|\n', part.text):
+def _line_feeds(atom: Atom) -> Optional[Advice]:
+    for node in nodes_of(atom.formula):
+        is_open = _is_open_run(node)
+        one = node.inner if isinstance(node, Repeat) else node
+        if not isinstance(one, One) or not one.is_negated or not one.fits_line_feed:
             continue
-        if _LETTERS.fullmatch(part.text):
-            return Advice(part.offset, r'this class has the line feed too, so a place may go on over lines or records: add \n to it')
-        is_field = _FIELD.search(part.text, 2) is not None and _SENTENCE.search(part.text, 2) is None
-        if is_field and behind is not None and _is_open(behind):
-            return Advice(part.offset, r'this class has the line feed too, so a field may go on over lines: add \n to it')
+        signs = {item.low for item in one.items if item.low == item.high}
+        if signs and len(signs) == len(one.items) and all(65 <= sign <= 90 for sign in signs):
+            return Advice(one.start, r'this class has the line feed too, so a place may go on over lines or records: add \n to it')
+        is_of_texts = signs & _OF_SENTENCES or any(item.name in (b'w', b'd') for item in one.items)
+        if is_open and signs & _BETWEEN_FIELDS and not is_of_texts:
+            return Advice(one.start, r'this class has the line feed too, so a field may go on over lines: add \n to it')
     return None
 
 
-def _quotes(atom: Atom, parts: Sequence[Part]) -> Optional[Advice]:
-    found = re.search(rb'(["\'`])!\w+\{\[\^\1[^]]*\][*+]\}\1', atom.text)
-    if found is None:
-        return None
-    return Advice(atom.offset + found.start(), 'what stands between two quoted parts is between quotes too: begin at the start of the line to '
-                  'tell them apart')
+def _quotes(atom: Atom) -> Optional[Advice]:
+    for node in nodes_of(atom.formula):
+        parts = node.parts if isinstance(node, Concatenation) else ()
+        for first, capture, last in zip(parts, parts[1:], parts[2:]):
+            if isinstance(first, One) and isinstance(capture, Capture) and isinstance(last, One) and first.text == last.text in (b'"', b"'", b'`'):
+                run = _only(capture.inner)
+                if isinstance(run, Repeat) and run.most is None and isinstance(run.inner, One) and run.inner.is_negated \
+                        and first.number in {item.low for item in run.inner.items}:
+                    return Advice(first.start, 'what is between two quoted parts is between quotes too: begin at the start of the line to tell them apart')
+    return None
 
 
-def _anchored_arms(atom: Atom, parts: Sequence[Part]) -> Optional[Advice]:
+def _only(formula: Formula) -> Optional[Formula]:
+    """The one part of a formula."""
+    return formula.parts[0] if isinstance(formula, Concatenation) and len(formula.parts) == 1 else None
+
+
+def _anchored_arms(atom: Atom) -> Optional[Advice]:
     """An anchor of a formula with arms is of all of them, and not of the nearest alone as in other tools."""
-    depth, has_arms = 0, False
-    for part in parts:
-        depth += (part.kind in ('open', 'capture')) - (part.kind == 'close')
-        has_arms = has_arms or (part.kind == 'bar' and depth == 0)
-    anchor = next((part for part in (*parts[:1], *parts[-1:]) if part.kind == 'anchor'), None)
-    if anchor is None or not has_arms:
+    if not isinstance(atom.formula, Choice) or not (atom.is_first or atom.is_last):
         return None
-    shown, example = anchor.text.decode(), '/^a/ union /b/' if anchor.text == b'^' else '/a/ union /b$/'
-    return Advice(anchor.offset, f'{shown} is of the whole formula, and so of each arm: for one arm alone write a union, {example}')
+    shown, example = ('^', '/^a/ union /b/') if atom.is_first else ('$', '/a/ union /b$/')
+    place = atom.start + 1 if atom.is_first else atom.end - len(atom.flags) - 2
+    return Advice(place, f'{shown} is of the whole formula, and so of each arm: for one arm alone write a union, {example}')
 
 
-_RULES: Sequence[Callable[[Atom, Sequence[Part]], Optional[Advice]]] = (
+_RULES: Sequence[Callable[[Atom], Optional[Advice]]] = (
     _plain_words, _named_class, _anchored_arms, _open_start, _open_end, _first_line, _edges, _line_feeds, _quotes)
 _OF_ONE_ATOM = (_open_start, _open_end, _edges, _quotes)
 _OF_THE_ENDS = (_first_line, _edges)

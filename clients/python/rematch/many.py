@@ -11,11 +11,12 @@ import re
 from itertools import chain, islice, repeat
 from typing import TYPE_CHECKING, Any, FrozenSet, Iterable, Iterator, List, Optional, Tuple, Union
 
-from ._reach import NoReach, byte_of, reach_of_printed
+from . import sets, tree, variables
+from ._reach import do_fits_touch
 from .documents import Document
 from .faults import DocumentError, OutOfMemory, ProgramNotFound, QueryError, RematchError, SizeError
-from .formula import Atom, Part, parts_of
 from .match import Match, Matches
+from .reader import read
 
 if TYPE_CHECKING:
     from .library import Compiled
@@ -26,7 +27,6 @@ __all__ = ['Mapped', 'bytes_read', 'mapped']
 
 Text = Union[str, bytes]
 
-_ATOM = re.compile(rb'/((?:[^\\/]|\\.)*)/', re.S)
 _USUAL = [0x0a, 0x00, 0x1e, 0x1f, 0xff, 0xfe, 0xc0, 0xc1]  # what is seldom read, and what UTF-8 never has
 _LEAST, _MOST = 64, 1 << 14  # texts of the first batch, and of any
 _MOST_BYTES = 1 << 22  # of a batch
@@ -34,78 +34,49 @@ _MOST_WAITING = 200_000  # rows of a batch that are held while it is not known w
 _LONG = 1 << 16  # of a text that has a run rather than a session
 
 
-def _class_bytes(text: bytes) -> Iterator[int]:
-    signs = re.findall(rb'\\x[0-9a-f]{2}|\\.|.', text[1:-1], re.S)
-    at = 0
-    while at < len(signs):
-        low = high = byte_of(signs[at])
-        if at + 2 < len(signs) and signs[at + 1] == b'-':
-            high = byte_of(signs[at + 2])
-            at += 2
-        at += 1
-        yield from range(low, high + 1)
+def _ones(query: tree.Query) -> Iterator[tree.One]:
+    return (one for atom in query.atoms for one in tree.ones_of(atom.formula))
 
 
-def _read_by(part: Part) -> Iterable[int]:
-    if part.kind == 'class':
-        return _class_bytes(part.text)
-    if part.kind == 'dot':
-        return (byte for byte in range(256) if byte != 0x0a)
-    return (byte_of(part.text),) if part.kind in ('literal', 'escape') else ()
+def bytes_read(query: tree.Query) -> FrozenSet[int]:
+    """The bytes that a formula of a query reads anywhere, which is in the program's own form.
 
-
-def _formulas(printed: bytes) -> List[List[Part]]:
-    """The parts of each formula of a query."""
-    return [parts_of(Atom(found[1], 1, False)) for found in _ATOM.finditer(printed)]
-
-
-def bytes_read(printed: bytes) -> FrozenSet[int]:
-    """The bytes that a formula of a query reads anywhere, from its printed form.
-
-    >>> sorted(bytes_read(rb'/^!x{[a-c]}/ join /!x{a}e/'))
+    >>> sorted(bytes_read(read(rb'/^!x{[a-c]}/ join /!x{a}e/')))
     [97, 98, 99, 101]
     """
-    return frozenset(byte for parts in _formulas(printed) for part in parts for byte in _read_by(part))
+    return sets.members(sets.united(found for one in _ones(query) for found in one.ranges()))
 
 
-def _is_sure(parts: List[Part]) -> bool:
-    """Whether each capture of a formula is in each of its fits, and there is one; where it is not seen at once, no."""
-    kinds = [part.kind for part in parts]
-    return ('capture' in kinds and 'bar' not in kinds
-            and not any(before == 'close' and part.kind == 'repeat' for before, part in zip(kinds, parts[1:])))
+def _expressions(query: tree.Query) -> Iterator[tree.Expression]:
+    return (found for whole in (*(let.expression for let in query.lets), query.body) for found in tree.expressions_of(whole))
 
 
-def _may_be_joined(printed: bytes) -> bool:
+def _are_sure(query: tree.Query) -> bool:
+    """Whether each row has spans, since each atom has a capture, each of them in each of its fits, and none is projected away."""
+    every = [(variables.captured(atom.formula), variables.sure(atom.formula)) for atom in query.atoms]
+    return all(names and names == sure for names, sure in every) and not any(isinstance(found, tree.Project) for found in _expressions(query))
+
+
+def _may_be_joined(query: tree.Query) -> bool:
     """Whether the fits of each row touch one another, so that they lie in one text."""
-    outside = _ATOM.sub(b' ', printed)
-    if re.search(rb'\bminus\b', outside) and (re.search(rb'\bproject\b', outside) or not all(map(_is_sure, _formulas(printed)))):
+    if any(isinstance(found, tree.Minus) for found in _expressions(query)) and not _are_sure(query):
         return False  # a row without spans may be taken away by that of another text
-
-    def names(found: 're.Match[bytes]') -> bytes:
-        return b'/%s/' % b''.join(part.text + b'a}' for part in parts_of(Atom(found[1], 1, False)) if part.kind == 'capture')
-    try:
-        reach_of_printed(_ATOM.sub(names, printed))
-    except NoReach:
-        return False
-    return True
+    return do_fits_touch(query)
 
 
-def _with_ends(printed: bytes, separator: int) -> bytes:
+def _with_ends(query: tree.Query, separator: int) -> bytes:
     r"""The query with a separator in the place of each anchor.
 
-    >>> _with_ends(rb'/^!x{a}|b/ union /!x{c}$/', 10)
+    >>> _with_ends(read(rb'/^!x{a}|b/ union /!x{c}$/'), 10)
     b'/\\x0a(!x{a}|b)/ union /(!x{c})\\x0a/'
     """
-    sign = b'\\x%02x' % separator
-
-    def ended(found: 're.Match[bytes]') -> bytes:
-        anchors = [part.text for part in parts_of(Atom(found[1], 1, False)) if part.kind == 'anchor']
-        if not anchors:
-            return found[0]
-        first, last = b'^' in anchors, b'$' in anchors
-        inner = found[1][first:len(found[1]) - last]
-        return b'/%s(%s)%s/' % (sign * first, inner or b'()', sign * last)
-    return _ATOM.sub(ended, printed)
+    sign, made, end = b'\\x%02x' % separator, b'', 0
+    for atom in query.atoms:
+        if atom.is_first or atom.is_last:
+            inner = query.text[atom.start + 1 + atom.is_first:atom.end - 1 - atom.is_last]
+            made += query.text[end:atom.start] + b'/%s(%s)%s/' % (sign * atom.is_first, inner or b'()', sign * atom.is_last)
+            end = atom.end
+    return made + query.text[end:]
 
 
 class _NoSpans(Exception):
@@ -117,15 +88,14 @@ class Mapped:
 
     def __init__(self, query: 'Query') -> None:
         self.query = query
-        printed = query.printed.encode('utf-8', 'surrogateescape')
-        self.printed = printed
-        read = bytes_read(printed)
-        free = [byte for byte in dict.fromkeys([*_USUAL, *range(256)]) if byte not in read]
-        is_one = bool(query.variables) and _may_be_joined(printed)
+        self.tree = read(query.printed.encode('utf-8', 'surrogateescape'), is_limited=False)
+        taken = bytes_read(self.tree)
+        free = [byte for byte in dict.fromkeys([*_USUAL, *range(256)]) if byte not in taken]
+        is_one = bool(query.variables) and _may_be_joined(self.tree)
         self.separators: List[int] = free if is_one else []
         # Whether each row has spans, so that the rows of a text need not wait for those of the others.
-        self.is_sure = not re.search(rb'\bproject\b', _ATOM.sub(b' ', printed)) and all(map(_is_sure, _formulas(printed)))
-        self.has_ends = any(part.kind == 'anchor' for parts in _formulas(printed) for part in parts)
+        self.is_sure = _are_sure(self.tree)
+        self.has_ends = any(atom.is_first or atom.is_last for atom in self.tree.atoms)
         self._known: Tuple[int, Optional['Query']] = (-1, None)  # the separator of the newest batch, and its query
         self._server: Optional['Server'] = None
         self._served: Optional['Served'] = None
@@ -190,7 +160,7 @@ class Mapped:
                 else:
                     try:
                         _, filter, max_table, program = self.query._given
-                        ended = _with_ends(self.printed, byte)
+                        ended = _with_ends(self.tree, byte)
                         self._known = byte, Query(ended, filter=filter, max_table=max_table, program=program)
                     except (QueryError, SizeError):  # groups or states more than a query has
                         self._known = byte, None

@@ -27,20 +27,33 @@ class Passed(unittest.TestCase):
         with open(os.path.join(DOCS, 'LANGUAGE.md'), encoding='utf-8') as file:
             found += [query.encode() for query in re.findall(r"rematch -e '([^']*)'", file.read())]
         self.assertGreater(len(found), 60)
-        for query in found + [b'', b'/', b'\xff/\xff/', b'let part = /a/; part', b'let part=/a/;part join /#/', b'/100%{2}/',
-                              b'/[%{ip}]/', b'project part (/!part{#}/)',
-                              b'/a/g', b'/a/ii ', b'/a', b'a/i/b', b'/a\\/i', b'part', b'part = /a/']:
-            if query != b'/a/ii ':
-                self.assertEqual(expand.expanded(query).text, query)
+        for query in found + [b'/\xff/', b'let part = /a/; part', b'let part=/a/;part join /#/', b'/100%{2}/', b'/[%{ip}]/', b'project part (/!part{#}/)',
+                              b'let i = /a/; i', b'/a/ union/b/', b'/[#]/u ', b'let m = /a/;m']:
+            self.assertEqual(expand.expanded(query).text, query)
 
-    def test_drawn_texts(self):
-        pick = random.Random(4)
-        for _ in range(2000):
-            query = ''.join(pick.choice(['/', 'a', '\\', '[', ']', '{', '[%{x}]', ' ', ';', 'let ', 'part', '=', 'u', '\n', '!x{',
-                                         '}', 'é']) for _ in range(pick.randrange(12))).encode()
-            if not re.search(rb'part\s+\w+\s*=', query):
+    def test_what_is_no_query_is_refused(self):
+        """With the program's note, and at the same place."""
+        for query in (b'', b'/', b'\xff/\xff/', b'/a/g', b'/a/ii ', b'/a', b'a/i/b', b'/a\\/i', b'part', b'part = /a/', rb'/\~1{ab}/'):
+            notes = []
+            for read in (expand.expanded, rematch.Query):
+                with self.assertRaises(rematch.QueryError) as caught:
+                    read(query)
+                notes.append(caught.exception.note)
+            self.assertEqual(notes[0], notes[1], query)
+
+    def test_places_of_drawn_texts(self):
+        """A text is passed on byte for byte, each byte at its place, or it is refused."""
+        pick, passed = random.Random(4), 0
+        for _ in range(4000):
+            query = ''.join(pick.choice(['/', '/', 'a', '\\', '[', ']', '{2}', '[%{x}]', ' ', ' union ', 'u', '\n', '!x{', '}', 'é'])
+                            for _ in range(pick.randrange(8))).encode()
+            try:
                 found = expand.expanded(query)
-                self.assertEqual((found.text, [found.origin(at) for at in range(len(query))]), (query, list(range(len(query)))))
+            except rematch.QueryError:
+                continue
+            passed += 1
+            self.assertEqual((found.text, [found.origin(at) for at in range(len(query))]), (query, list(range(len(query)))))
+        self.assertGreater(passed, 20)
 
 
 class Written(unittest.TestCase):
@@ -54,7 +67,8 @@ class Written(unittest.TestCase):
                               ('/[0-9]\\d\\w\\n/i', '/[0-9]\\d\\w\\n/'), ('/\\x41\\./ui', '/[Aa]\\./u'),
                               ('/[\\x41-\\x43]/i', '/[a-c\\x41-\\x43]/'), ('/^a$/i', '/^[Aa]$/'),
                               ('/[X-c]/i', '/[x-zA-CX-c]/'), ('/\\p{Lu}a/ui', '/\\p{Lu}[Aa]/u'), ('//i', '//'),
-                              ('/a/i/b/', '/[Aa]//b/')):
+                              ('/[-a]/i', '/[A\\-a]/'), ('/[^-Z]/i', '/[^z\\-Z]/'), ('/[--a]/i', '/[a-zA\\--a]/'), ('/~1{[-a]b}/i', '/([A\\-a].|.[Bb])/'),
+                              (r'/\u{61}[\u{61}-\u{63}]/ui', r'/[Aa][A-C\u{61}-\u{63}]/u'), (r'/[a-\u{e9}]/ui', r'/[A-Za-\u{e9}]/u')):
             self.assertEqual(text(query), wanted)
 
     def test_both_cases_find_what_python_finds(self):
@@ -80,7 +94,7 @@ class Written(unittest.TestCase):
                                 ('/a%{ip}/', 2, 'no part ip'), ('let ip = /a/; /%{ip}/', 15, 'ip is a let'), ('part x = /a/; part x = /b/; /a/', 19, 'rename'),
                                 ('part x = /a/ /b/; /a/', 13, 'one formula'), ('part x = /a/', 12, 'one formula'),
                                 ('part x = /a/ union /b/; /c/', 13, 'one formula'),
-                                ('part x = /a/u; /%{x}/', 16, 'over characters'), ('part x = /a/; /[%{x}]/', 16, 'in no class'),
+                                ('part x = /a/u; /%{x}/', 16, 'over characters'), ('part x = /a/; /[%{x}]/', 16, 'no class contains'),
                                 ('part x = /%{x}/; /a/', 10, 'no part x')):
             with self.assertRaises(rematch.QueryError) as caught:
                 expand.expanded(query)
@@ -106,7 +120,7 @@ class Written(unittest.TestCase):
         """A long chain is no fault of Python."""
         for use in ('%%{a%d}', '~1{%%{a%d}b}'):
             query = 'part a0 = /x/; ' + ''.join('part a%d = /%%{a%d}/; ' % (k, k - 1) for k in range(1, 2500)) + '/' + use % 2499 + '/'
-            with self.assertRaisesRegex(rematch.QueryError, 'longer than 65536 bytes'):
+            with self.assertRaisesRegex(rematch.QueryError, 'too deep'):
                 expand.expanded(query)
 
 
@@ -130,7 +144,7 @@ class Places(Folder):
         self.assertIn('advice at 4: i is for', asked('check', '-e', '/!x{é}/i')[1])
 
     def test_check_shows_what_the_program_reads(self):
-        for query, wanted in (('/a/i # x', '/[Aa]/ \n'), ('/!x{a}/\n', '/!x{a}/\n'), ('part p = /b/; /%{p}(/', '/(b)(/\n')):
+        for query, wanted in (('/a/i # x', '/[Aa]/ \n'), ('/!x{a}/\n', '/!x{a}/\n'), ('part p = /b/; /%{p}/', '/(b)/\n')):
             self.assertEqual(asked('check', '--expanded', '-e', query), (0, wanted, ''))
         self.assertEqual(asked('check', '--expanded', '-q', self.file('q', b'/!x{\xc3\xa9}/'))[1], '/!x{é}/\n')
         self.assertEqual(asked('check', '--expanded', '-e', 'part p = /b/; /%{q}/')[0], 3)

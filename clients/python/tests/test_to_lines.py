@@ -5,7 +5,7 @@ import subprocess
 import unittest
 
 import rematch
-from rematch.to import lines as to_lines
+from rematch.to import expand, lines as to_lines
 from rematch.documents import Document
 from rematch.to.packed import Given
 from support import Folder, needs
@@ -78,9 +78,11 @@ class Lines(Folder):
         for text, wanted in ((rb'/a/', rb'/!match{a}/'), (rb'/^a$/', rb'/^!match{a}$/'), (rb'/a\$/', rb'/!match{a\$}/'),
                              (rb'/\^a/u', rb'/!match{\^a}/u'), (rb'/^/', rb'/^!match{}/'),
                              (rb'/$/', rb'/!match{}$/'), (rb'/a|b/ union /\/c/', rb'/!match{a|b}/ union /!match{\/c}/'),
-                             (rb'/a/ minus /b/', None),
+                             (rb'/^a|b$/m', rb'(/^!match{a|b}$/ union /^!match{a|b}\n/ union /\n!match{a|b}$/ union /\n!match{a|b}\n/)'),
+                             (rb'/a\b/', rb'(/!match{a}$/ union /!match{a}[^\w]/)'), (rb'/a/ minus /b/', None),
                              (rb'project none (/!x{a}/)', None), (b'/a\\\\$/', b'/!match{a\\\\}$/')):
-            self.assertEqual(to_lines.captured(text), wanted)
+            found = expand.captured(text, b'match')
+            self.assertEqual(found and found.text, wanted)
             if wanted is not None:
                 self.assertEqual(rematch.Query(wanted).variables, ('match',))
 

@@ -14,7 +14,7 @@ from ..match import Row
 from ..pieces import NoReach, reach
 from ..query import Query
 from .command import line_of, output, run_told
-from .expand import Expanded, expanded
+from .expand import Expanded, captured, expanded
 from .doubts import doubts_of, oddity_of
 from .nucleotides import small_letter, with_iupac
 from .packed import Given
@@ -71,11 +71,10 @@ class Command:
         except QueryError as fault:
             raise self.expansion.fault(fault) from None
         if self.asks_for_lines() and not query.variables:
-            from .lines import captured
-            made = captured(text)
+            made = captured(self.expansion.source, b'match')
             if made is None:
                 refuse('the query has no capture, so no row has a place: put !name{..} around what the lines have')
-            query = make(made, **words)
+            query = make(made.text, **words)
         return query
 
     def read_text(self) -> bytes:

@@ -5,8 +5,8 @@ import re
 from typing import List, Optional
 
 from ..documents import packed_by
-from ..formula import atoms_of
 from ..query import Query
+from ..reader import read
 
 __all__ = ['doubts_of', 'oddity_of']
 
@@ -68,7 +68,7 @@ def doubts_of(data: bytes, query: Query, *, is_sequence: bool = False) -> List[s
         told.append('it is wrapped as FASTA is: a place over two lines is not found, nor one of the other strand; bed, gff and '
                     'fasta search '
                     'its records')
-    if not query.text.isascii() or any(atom.is_over_characters for atom in atoms_of(query.text)):
+    if not query.text.isascii() or any(atom.is_over_characters for atom in read(query.text).atoms):
         told += _of_characters(head, query.text)
     return told
 

@@ -1,9 +1,11 @@
-"""Query texts with conveniences, which are written out before the program sees them.
+r"""Query texts with conveniences, which are written out before the program sees them.
 
-- `#` begins a comment, to the end of the line; it stands between formulas.
-- `i` behind the closing slash takes both cases of ASCII letters: `/error/i` is `/[Ee][Rr][Rr][Oo][Rr]/`. Behind a formula
-  it is for the parts in it too, behind a part for that part alone.
-- `part ip = /[\\d.]+/;` names a part of formulas, which is used in those behind it as `%{ip}`, a group.
+- `#` begins a comment, to the end of the line; it is between formulas.
+- `i` after the closing slash takes both cases of ASCII letters: `/error/i` is `/[Ee][Rr][Rr][Oo][Rr]/`. After a formula
+  it is for the parts in it too, after a part for that part alone.
+- `m` after the closing slash makes `^` and `$` the start and the end of a line: the document's edge or a line feed.
+- `\b` at an end of a formula is an edge of a word: the document's edge or a byte outside `\w`.
+- `part ip = /[\\d.]+/;` names a part of formulas, which is used in those after it as `%{ip}`, a group.
 - `~1{TATAAT}` in a formula is a word with at most so many letters other than these, 1 to 9.
 
 A text that has none of them is passed on byte for byte. The program's language is as it is: what it reads is the text
@@ -11,23 +13,19 @@ that `rematch-to check --expanded` shows.
 """
 from __future__ import annotations
 
-import re
 from bisect import bisect_right
-from typing import Callable, Dict, List, NamedTuple, Optional, Sequence, Tuple, Union
+from itertools import product
+from typing import Dict, Iterator, List, NamedTuple, Optional, Sequence, Tuple, Union
 
 from ..advice import Advice
 from ..faults import QueryError
-from ..formula import Atom, Part, items_of, letter_of, parts_of
-from .mismatches import MOST_UNITS, units_of, units_written, with_mismatches
+from ..reader import LONGEST_QUERY, query_fault, read
+from ..tree import (Atom, Boundary, Capture, Choice, Concatenation, Definition, Formula, Group, One, Query, Repeat, Union_, Use, Word, expressions_of,
+                    nodes_of)
+from .cases import both_cases, one_case
+from .mismatches import MOST_UNITS, Unit, units_written, with_mismatches
 
-__all__ = ['Expanded', 'expanded']
-
-_TOKEN = re.compile(rb'''
-    (?P<atom>/(?P<body>(?:[^\\/]|\\.)*)/(?P<signs>[iu]{0,2}(?![A-Za-z0-9_]))?) | (?P<comment>\#[^\n]*) |
-    (?P<part>\bpart\s+(?P<name>[A-Za-z_]\w*)\s*=\s*(?=/)) | (?P<end>;\s*) | (?P<word>\w+) | (?P<rest>.)
-''', re.X | re.S)
-_USE = re.compile(rb'(?s:\\.)|(?P<class>\[(?:[^\\\]]|\\.)*\])|%\{(?P<name>[A-Za-z_]\w*)\}|~(?P<most>\d)\{(?!\d+(?:,\d*)?\})', re.S)
-_MOST = 65536  # bytes of a query that the program reads
+__all__ = ['Expanded', 'captured', 'expanded']
 
 
 class Expanded:
@@ -36,18 +34,21 @@ class Expanded:
     def __init__(self, source: bytes) -> None:
         self.source = source
         self.advice: List[Advice] = []  # on its conveniences, at places of the source
+        self.length = 0
+        self.has_document_anchors = False  # whether an anchor is of the document and not of its lines
         self._pieces: List[bytes] = []
         self._starts: List[int] = []  # of each piece, in the text
         self._origins: List[Tuple[int, bool]] = []  # where it was written, and whether byte for byte
-        self._length = 0
 
     def add(self, piece: bytes, origin: int, *, is_same: bool = True) -> None:
         """Goes on with a piece that was written at a place of the source."""
         if piece:
             self._pieces.append(piece)
-            self._starts.append(self._length)
+            self._starts.append(self.length)
             self._origins.append((origin, is_same))
-            self._length += len(piece)
+            self.length += len(piece)
+        if self.length > 4 * LONGEST_QUERY:
+            raise query_fault(f'longer than {LONGEST_QUERY} bytes', self.source)
 
     @property
     def text(self) -> bytes:
@@ -56,7 +57,7 @@ class Expanded:
 
     def origin(self, offset: int) -> int:
         """The place of the source that a place of the text was written at."""
-        if not self._starts or offset >= self._length:
+        if not self._starts or offset >= self.length:
             return len(self.source)
         k = bisect_right(self._starts, offset) - 1
         origin, is_same = self._origins[k]
@@ -71,259 +72,250 @@ class Expanded:
         return told
 
 
-class _Part(NamedTuple):
-    atom: Atom
-    is_both_cases: bool
-
-
 def expanded(text: Union[str, bytes]) -> Expanded:
-    r"""The text that the program reads for a text with conveniences; `QueryError` for a part that is not there or there twice.
+    r"""The text that the program reads for a text with conveniences; `QueryError` for a text that cannot be read.
 
     >>> expanded('/Err[o]/i # a fault').text
     b'/[Ee][Rr][Rr][Oo]/ '
     >>> expanded(r'part ip = /\d+/; /from !a{%{ip}}/').text
     b'/from !a{(\\d+)}/'
+    >>> expanded('/^a/m').text
+    b'(/^a/ union /\\na/)'
     >>> expanded('/100%{2}/').text
     b'/100%{2}/'
     """
-    source = text if isinstance(text, bytes) else text.encode('utf-8', 'surrogateescape')
-    return _Reader(source).read()
+    return _Writer(read(text, conveniences=True)).written()
 
 
-class _Reader:
-    def __init__(self, source: bytes) -> None:
-        self.found = Expanded(source)
-        self.parts: Dict[bytes, _Part] = {}
-        self.named: Optional[bytes] = None  # the part whose formula comes next, or has come
-        self.uses = 0
+def captured(text: Union[str, bytes], name: bytes) -> Optional[Expanded]:
+    r"""As `expanded`, with all of each formula captured, of a text without a capture; None where that would mean something else.
 
-    def read(self) -> Expanded:
-        source, is_start = self.found.source, True
-        for token in _TOKEN.finditer(source):
-            if token['atom'] is not None:
-                self.atom(token)
-            elif token['comment'] is not None:
-                continue
-            elif token['part'] is not None and is_start:
-                self.begin(token)
-            elif self.named is None:
-                self.found.add(token[0], token.start())
-            elif token['end'] is not None and self.named in self.parts:
-                self.named = None  # the end of a part, which the program does not read
-            elif not token[0].isspace():
-                raise self.bad_part(token.start())
-            is_start = token['end'] is not None or (is_start and token[0].isspace())
-        if self.named is not None:
-            raise self.bad_part(len(source))
+    What `m` and `\b` write beside a formula is outside of its capture.
+
+    >>> captured('/^a|b/m', b'x').text
+    b'(/^!x{a|b}/ union /\\n!x{a|b}/)'
+    >>> captured('/a/ join /b/', b'x')
+    """
+    query = read(text, conveniences=True)
+    if query.lets or query.tests or not all(isinstance(found, (Atom, Union_)) for found in expressions_of(query.body)):
+        return None
+    return _Writer(query, name).written()
+
+
+class _Place(NamedTuple):
+    """Where a formula is written out: in an atom, perhaps inside of parts that are used at a place of it."""
+
+    is_both_cases: bool
+    used_at: Optional[int]  # the place of the use, of what is written in a part
+    is_first: bool = False  # whether it begins where the formula of the atom begins
+    is_last: bool = False
+
+
+class _Writer:
+    def __init__(self, query: Query, capture: bytes = b'') -> None:
+        self.query = query
+        self.capture = capture  # the name by which each formula is captured; empty where none is
+        self.source = query.text
+        self.parts: Dict[bytes, Definition] = {part.name: part for part in query.definitions}
+        self.found = Expanded(query.text)
+
+    def written(self) -> Expanded:
+        for definition in self.query.definitions:
+            self.tell(definition.atom)
+        left_out = [(start, end, None) for start, end in self.query.comments]
+        left_out += [(definition.start, definition.end, None) for definition in self.query.definitions]
+        at = 0
+        for start, end, atom in sorted([*left_out, *((atom.start, atom.end, atom) for atom in self.query.atoms)], key=lambda place: place[0]):
+            if start >= at:
+                self.found.add(self.source[at:start], at)
+                if atom is not None:
+                    self.atom(atom)
+                at = end
+        self.found.add(self.source[at:], at)
+        self.found.advice.sort(key=lambda advice: advice.offset)
         return self.found
 
-    def bad_part(self, place: int) -> QueryError:
-        fault = QueryError(f'query: unexpected at {place}', 3, self.found.source)
-        fault.hint = 'a part is one formula and a ; behind it: part NAME = /../;'
-        return fault
+    def tell(self, atom: Atom) -> None:
+        """Advice on what is written in a formula."""
+        for node in nodes_of(atom.formula):
+            if isinstance(node, Concatenation):
+                self.found.advice += _plain_mismatches(node)
 
-    def begin(self, token: 're.Match[bytes]') -> None:
-        if token['name'] in self.parts:
-            raise QueryError(f'query: name twice at {token.start("name")}', 3, self.found.source)
-        self.named = token['name']
+    # Atoms
 
-    def atom(self, token: 're.Match[bytes]') -> None:
-        signs = token['signs'] or b''
-        atom = Atom(token['body'], token.start('body'), b'u' in signs)
-        if self.named in self.parts:
-            raise self.bad_part(token.start())
-        pieces = self.body(atom, b'i' in signs)
-        if self.named is not None:
-            self.parts[self.named] = _Part(atom, b'i' in signs)
+    def atom(self, atom: Atom) -> None:
+        self.tell(atom)
+        is_of_lines = b'm' in atom.flags
+        self.found.has_document_anchors = self.found.has_document_anchors or ((atom.is_first or atom.is_last) and not is_of_lines)
+        arms = self.arms(atom)
+        written = [(begin, arm, end) for arm in arms for begin, end in product(self.begins(atom, arm), self.ends(atom, arm))]
+        if not self.capture and len(written) == 1 and set(atom.flags) <= {ord('u')} and not any(map(_is_convenience, nodes_of(atom.formula))):
+            self.found.add(self.source[atom.start:atom.end], atom.start)
             return
-        if b'i' not in signs and all(is_same for _, _, is_same in pieces) and len(pieces) < 2:
-            self.found.add(token[0], token.start())
-            return
-        self.found.add(b'/', token.start())
-        for piece, origin, is_same in pieces:
-            self.found.add(piece, origin, is_same=is_same)
-        self.found.add(b'/' + (b'u' if b'u' in signs else b''), token.end('body'), is_same=False)
-        if self.found._length > 4 * _MOST:
-            raise QueryError(f'query: longer than {_MOST} bytes', 3, self.found.source)
+        for count, (begin, arm, end) in enumerate(written):
+            self.found.add(b' union ' if count else b'(' if len(written) > 1 else b'', atom.start, is_same=False)
+            self.one_atom(atom, begin, arm, end)
+        self.found.add(b')' if len(written) > 1 else b'', atom.end - 1, is_same=False)
 
-    def body(self, atom: Atom, is_both_cases: bool) -> List[Tuple[bytes, int, bool]]:
-        """What a formula is written out to, in pieces with their places."""
-        pieces: List[Tuple[bytes, int, bool]] = []
-        at, end = 0, 0
-        while True:
-            use = _USE.search(atom.text, end)
-            if use is None:
-                return pieces + self.plain(atom, at, len(atom.text), is_both_cases)
-            end = use.end()
-            if use['name'] is None and use['most'] is None:
-                self.refuse_in_class(use, atom)
-                continue
-            pieces += self.plain(atom, at, use.start(), is_both_cases)
-            if use['most'] is None:
-                pieces += self.used(use, atom, is_both_cases)
-            else:
-                word, end = self.word(atom, use.start(), is_both_cases)
-                pieces.append((word, atom.offset + use.start(), False))
-            at = end
+    def one_atom(self, atom: Atom, begin: bytes, arm: Formula, end: bytes) -> None:
+        """Writes one atom, of a formula and of what is beside it."""
+        opening, closing = b'', b''
+        if self.capture:
+            opening, closing = b'!%s{' % self.capture, b'}'
+        elif isinstance(arm, Choice) and not {begin, end} <= {b'', b'^', b'$'}:
+            opening, closing = b'(', b')'
+        self.found.add(b'/', atom.start)
+        self.found.add(begin + opening, atom.start + 1, is_same=False)
+        self.formula(arm, _Place(b'i' in atom.flags, None, is_first=True, is_last=True))
+        last = atom.end - len(atom.flags) - 1  # of the closing slash
+        self.found.add(closing + end, last - atom.is_last, is_same=False)
+        self.found.add(b'/' + b'u' * atom.is_over_characters, last, is_same=False)
 
-    def word(self, atom: Atom, start: int, is_both_cases: bool) -> Tuple[bytes, int]:
-        """What a word with mismatches is written out to, and where it ends."""
-        most = int(atom.text[start + 1:start + 2])
-        units, end = self.units(atom, start + 3, is_both_cases)
-        if atom.text[end:end + 1] != b'}':
-            sign = atom.text[end:end + 1]
-            raise self.bad_word(atom.offset + (end if sign else start), 'in ~1{..} stand letters, classes, parts and {n}, up to the }: other signs stand '
-                                'outside of it' if sign else 'the word that begins here is not ended: ~1{..}')
-        if not 0 < most < len(units):
-            raise self.bad_word(atom.offset + start, f'a word of {len(units)} letters differs in 1 to {len(units) - 1} of them, and in 9 at most'
-                                if len(units) > 1 else 'a word with mismatches has two letters or more')
-        written = units_written(len(units), most)
-        if written > MOST_UNITS:
-            raise self.bad_word(atom.offset + start, f'{len(units)} letters with {most} mismatches are {written} letters written out, and '
-                                f'{MOST_UNITS} is the most: take fewer mismatches, or a shorter word')
-        return with_mismatches(units, most), end + 1
+    def arms(self, atom: Atom) -> Sequence[Formula]:
+        """The formulas that are atoms of their own: the arms, where one has an edge of a word, else the whole."""
+        formula = atom.formula
+        if isinstance(formula, Choice) and any(self.has_boundary(arm, at) for arm in formula.arms for at in (0, -1)):
+            return formula.arms
+        return (formula,)
 
-    def bad_word(self, place: int, hint: str) -> QueryError:
-        fault = QueryError(f'query: unexpected at {place}', 3, self.found.source)
-        fault.hint = hint
-        return fault
+    def begins(self, atom: Atom, formula: Formula) -> Sequence[bytes]:
+        """What may be before a formula, of which one is written."""
+        if atom.is_first:
+            return (b'^', rb'\n') if b'm' in atom.flags else (b'^',)
+        return (b'^', rb'[^\w]') if self.has_boundary(formula, 0) else (b'',)
 
-    def units(self, atom: Atom, start: int, is_both_cases: bool) -> Tuple[List[bytes], int]:
-        """What each place of a word fits, and where the word ends: at its }, or at what cannot stand in it."""
-        made: List[bytes] = []
-        newest: Optional[List[bytes]] = None  # what a number of times is of
-        end = start
-        for unit in units_of(atom.text, start):
-            if unit.kind == 'bad' or (unit.kind == 'times' and newest is None):
-                return made, unit.offset
-            if unit.kind == 'use':
-                part = self.part(unit.value, atom, unit.offset)
-                inner, inner_end = self.units(part.atom, 0, is_both_cases or part.is_both_cases)
-                if inner_end < len(part.atom.text):
-                    raise self.bad_word(atom.offset + unit.offset, 'the part is no word: in ~1{..} stand letters and classes')
-                newest = inner
-            elif unit.kind == 'times':
-                assert newest is not None
-                made, newest = made[:len(made) - len(newest)] + int(unit.value) * newest, None
-            elif unit.kind == 'literal' and not unit.text.isascii() and not atom.is_over_characters:
-                raise self.bad_word(atom.offset + unit.offset, 'a letter past ASCII is several bytes: put the sign u behind the closing slash')
-            else:
-                part_of_it = Part(unit.kind, unit.text, atom.offset + unit.offset)
-                self.tell_one_case([part_of_it] if is_both_cases else [])
-                newest = [_both_cases(part_of_it) if is_both_cases else unit.text]
-            made += newest if unit.kind != 'times' and newest is not None else []
-            end = unit.offset + len(unit.text)
-            if len(made) > MOST_UNITS:
-                raise self.bad_word(atom.offset + start, f'a word has at most {MOST_UNITS} letters')
-        return made, end
+    def ends(self, atom: Atom, formula: Formula) -> Sequence[bytes]:
+        """What may be after a formula, of which one is written."""
+        if atom.is_last:
+            return (b'$', rb'\n') if b'm' in atom.flags else (b'$',)
+        return (b'$', rb'[^\w]') if self.has_boundary(formula, -1) else (b'',)
 
-    def refuse_in_class(self, use: 're.Match[bytes]', atom: Atom) -> None:
-        for name in self.parts:
-            at = (use['class'] or b'').find(b'%{' + name + b'}')
-            if at >= 0:
-                fault = QueryError(f'query: unexpected at {atom.offset + use.start() + at}', 3, self.found.source)
-                fault.hint = 'a part is a formula, and stands in no class'
-                raise fault
+    def has_boundary(self, formula: Formula, at: int) -> bool:
+        r"""Whether a formula has a `\b` at its beginning (0) or at its end (-1), also in groups, captures and parts that are there."""
+        if isinstance(formula, Concatenation):
+            is_one = at == -1 and len(formula.parts) == 1 and isinstance(formula.parts[0], Boundary)  # which is at the beginning
+            return bool(formula.parts) and not is_one and self.has_boundary(formula.parts[at], at)
+        if isinstance(formula, (Group, Capture)):
+            return self.has_boundary(formula.inner, at)
+        if isinstance(formula, Use):
+            return self.has_boundary(self.parts[formula.name].atom.formula, at)
+        return isinstance(formula, Boundary)
 
-    def used(self, use: 're.Match[bytes]', atom: Atom, is_both_cases: bool) -> List[Tuple[bytes, int, bool]]:
-        place = atom.offset + use.start()
-        part = self.part(use['name'], atom, use.start())
-        return [(b'(', place, False), *self.body(part.atom, is_both_cases or part.is_both_cases), (b')', place, False)]
+    # Formulas
 
-    def part(self, name: bytes, atom: Atom, at: int) -> _Part:
-        """The part of that name, which is used at a place of a formula."""
-        place = atom.offset + at
-        part = self.parts.get(name)
-        if part is None:
-            fault = QueryError(f'query: unknown name at {place}', 3, self.found.source)
-            is_let = re.search(rb'\blet\s+%s\s*=' % name, self.found.source) is not None
-            fault.hint = (f'{name.decode()} is a let, which names a query: for a part of formulas write part {name.decode()} = /../;' if is_let
-                          else f'there is no part {name.decode()} before it, and %{{..}} uses one: the sign itself is \\{{')
-            raise fault
-        if part.atom.is_over_characters and not atom.is_over_characters:
-            fault = QueryError(f'query: unexpected at {place}', 3, self.found.source)
-            fault.hint = 'the part is over characters (u behind its closing slash), and so must be the formula'
-            raise fault
-        self.uses += 1
-        if self.uses > _MOST:
-            raise QueryError(f'query: longer than {_MOST} bytes', 3, self.found.source)
-        return part
-
-    def plain(self, atom: Atom, start: int, end: int, is_both_cases: bool) -> List[Tuple[bytes, int, bool]]:
-        text = atom.text[start:end]
-        if not is_both_cases:
-            return [(text, atom.offset + start, True)] if text else []
-        shown = Atom(text, atom.offset + start, atom.is_over_characters)
-        self.tell_one_case(parts_of(shown))
-        return _replaced(shown, _both_cases)
-
-    def tell_one_case(self, parts: Sequence[Part]) -> None:
-        """Tells the first letter past ASCII that has two cases, where both cases are asked for."""
-        if not self.found.advice:
-            self.found.advice += filter(None, map(_one_case, parts))
-            del self.found.advice[1:]
-
-
-def _replaced(atom: Atom, change: Callable[[Part], bytes]) -> List[Tuple[bytes, int, bool]]:
-    """The parts of a formula, changed; what is behind a part that cannot be read stays as it is."""
-    pieces: List[Tuple[bytes, int, bool]] = []
-    end = 0
-    for part in parts_of(atom):
-        changed = change(part)
-        pieces.append((changed, part.offset, changed == part.text))
-        end = part.offset - atom.offset + len(part.text)
-    if end < len(atom.text):
-        pieces.append((atom.text[end:], atom.offset + end, True))
-    return pieces
-
-
-# -- Both cases
-
-_CASED = re.compile(r'\\u\{([0-9A-Fa-f]{1,6})\}|(\\p\{L[ult]\})|([^\x00-\x7f])')
-
-
-def _one_case(part: Part) -> Optional[Advice]:
-    """Advice on the first letter past ASCII of a part that has two cases, of which the part has one."""
-    text = part.text.decode('utf-8', 'replace')
-    for found in _CASED.finditer(text):
-        shown, sign = found[0], found[3] or ''
-        if found[1] is not None and int(found[1], 16) < 0x110000:
-            sign = chr(int(found[1], 16))
-        lower, upper = sign.lower(), sign.upper()
-        if found[2] is not None:
-            both = r'[\p{Lu}\p{Ll}\p{Lt}]'
-        elif sign.isascii() or lower == upper or (lower in text and upper in text):
-            continue
+    def formula(self, node: Formula, place: _Place) -> None:
+        if isinstance(node, One):
+            self.one(node, place)
+        elif isinstance(node, Concatenation):
+            self.concatenation(node, place)
+        elif isinstance(node, Choice):
+            for count, arm in enumerate(node.arms):
+                self.plain(b'|' * (count > 0), arm.start - 1)
+                self.formula(arm, place._replace(is_first=False, is_last=False))
+        elif isinstance(node, (Group, Capture)):
+            inner = node.start + 1 + (len(node.name) + 1 if isinstance(node, Capture) else 0)
+            self.plain(self.source[node.start:inner], node.start)
+            self.formula(node.inner, place)
+            self.plain(self.source[node.end - 1:node.end], node.end - 1)
+        elif isinstance(node, Repeat):
+            self.formula(node.inner, place._replace(is_first=False, is_last=False))
+            self.plain(self.source[node.inner.end:node.end], node.inner.end)
+        elif isinstance(node, Use):
+            self.use(node, place)
+        elif isinstance(node, Word):
+            word = with_mismatches(self.units_of_word(node, place), node.most)
+            self.found.add(word, node.start if place.used_at is None else place.used_at, is_same=False)
         else:
-            both = f'[{lower}{upper}]' if len(lower) == len(upper) == 1 else f'({lower}|{upper})'
-        offset = part.offset + len(text[:found.start()].encode('utf-8'))
-        write = 'add the other case to the class' if part.kind == 'class' else f'for both cases write {both}, with the sign u'
-        return Advice(offset, f'i is for the letters of ASCII, and {shown} stays as it is: {write}')
-    return None
+            self.boundary(node, place)
+
+    def plain(self, text: bytes, start: int) -> None:
+        """A text as it is written, which is at a place of the source."""
+        self.found.add(text, start)
+
+    def concatenation(self, node: Concatenation, place: _Place) -> None:
+        for count, part in enumerate(node.parts):
+            self.formula(part, place._replace(is_first=place.is_first and count == 0, is_last=place.is_last and count == len(node.parts) - 1))
+
+    def one(self, node: One, place: _Place) -> None:
+        if place.is_both_cases:
+            self.tell_one_case(node)
+            text = both_cases(node)
+            self.found.add(text, node.start, is_same=text == node.text)
+        else:
+            self.found.add(node.text, node.start)
+
+    def use(self, node: Use, place: _Place) -> None:
+        part = self.parts[node.name]
+        used_at = node.start if place.used_at is None else place.used_at
+        self.found.add(b'(', node.start, is_same=False)
+        self.formula(part.atom.formula, place._replace(is_both_cases=place.is_both_cases or b'i' in part.atom.flags, used_at=used_at))
+        self.found.add(b')', node.start, is_same=False)
+
+    def boundary(self, node: Boundary, place: _Place) -> None:
+        """Writes nothing: what is beside the formula is written at its ends."""
+        if not (place.is_first or place.is_last):
+            raise query_fault('bad escape', self.source, node.start if place.used_at is None else place.used_at,
+                              r'\b is at the ends of a formula or of its arms: /\b!x{..}\b/; elsewhere write [^\w] before or after the capture')
+
+    def tell_one_case(self, node: One) -> None:
+        """Tells the first letter past ASCII that has two cases, where both cases are asked for."""
+        if not any(advice.message.startswith('i is for') for advice in self.found.advice):
+            told = one_case(node)
+            self.found.advice += [told] if told else []
+
+    # Words with mismatches
+
+    def units_of_word(self, word: Word, place: _Place) -> List[Unit]:
+        """What each place of a word fits; refuses a word of too many or too few letters."""
+        units = self.units(word.units, place)
+        length, most, at = len(units), word.most, word.start if place.used_at is None else place.used_at
+        if not 0 < most < length:
+            raise query_fault('unexpected', self.source, at, f'a word of {length} letters differs in 1 to {length - 1} of them, and in 9 at most'
+                              if length > 1 else 'a word with mismatches has two letters or more')
+        written = units_written(length, most)
+        if written > MOST_UNITS:
+            raise query_fault('unexpected', self.source, at, f'{length} letters with {most} mismatches are {written} letters written out, and '
+                              f'{MOST_UNITS} is the most: take fewer mismatches, or a shorter word')
+        return units
+
+    def units(self, nodes: Sequence[Formula], place: _Place) -> List[Unit]:
+        made: List[Unit] = []
+        for node in nodes:
+            if isinstance(node, One):
+                if place.is_both_cases:
+                    self.tell_one_case(node)
+                made.append(Unit(both_cases(node) if place.is_both_cases else node.text, fits_line_feed=node.fits_line_feed))
+            elif isinstance(node, Repeat):
+                made += self.units((node.inner,), place) * node.least
+            elif isinstance(node, Use):
+                made += self.units_of_part(node, place)
+            else:
+                raise query_fault('unexpected', self.source, node.start, 'the part is no word: ~1{..} contains letters and classes')
+            if len(made) > MOST_UNITS:
+                raise query_fault('unexpected', self.source, node.start, f'a word has at most {MOST_UNITS} letters')
+        return made
+
+    def units_of_part(self, node: Use, place: _Place) -> List[Unit]:
+        part = self.parts[node.name]
+        formula = part.atom.formula
+        is_word = isinstance(formula, Concatenation) and all(
+            isinstance(inner, (One, Use)) or (isinstance(inner, Repeat) and inner.least == inner.most and isinstance(inner.inner, (One, Use)))
+            for inner in formula.parts)
+        if not is_word:
+            raise query_fault('unexpected', self.source, node.start, 'the part is no word: ~1{..} contains letters and classes')
+        return self.units(formula.parts, place._replace(is_both_cases=place.is_both_cases or b'i' in part.atom.flags))
 
 
-def _both_cases(part: Part) -> bytes:
-    if part.kind in ('literal', 'escape'):
-        letter = letter_of(part.text)
-        return b'[' + letter.upper() + letter.lower() + b']' if letter else part.text
-    return _class_of_both_cases(part.text) if part.kind == 'class' else part.text
+def _is_convenience(node: Formula) -> bool:
+    return isinstance(node, (Use, Word, Boundary))
 
 
-def _class_of_both_cases(text: bytes) -> bytes:
-    """A class with the other case of each letter and of each range of letters, before the rest of it.
-
-    >>> _class_of_both_cases(b'[a-f_]'), _class_of_both_cases(b'[^x-]'), _class_of_both_cases(b'[0-9]')
-    (b'[A-Fa-f_]', b'[^Xx-]', b'[0-9]')
-    """
-    start = 2 if text.startswith(b'[^') else 1
-    more = b''.join(_other_case(item.low, item.high) for item in items_of(text) if item.low is not None and item.high is not None)
-    return text[:start] + more + text[start:] if more else text
-
-
-def _other_case(low: int, high: int) -> bytes:
-    found = b''
-    for first, last, by in ((65, 90, 32), (97, 122, -32)):
-        begin, end = max(low, first), min(high, last)
-        if begin <= end:
-            found += bytes([begin + by]) + (b'-' + bytes([end + by]) if end > begin else b'')
-    return found
+def _plain_mismatches(node: Concatenation) -> Iterator[Advice]:
+    """Advice on `~1{911}`, which is a repeat of the 1 and no word with mismatches."""
+    for sign, repeat in zip(node.parts, node.parts[1:]):
+        if isinstance(sign, One) and sign.text == b'~' and isinstance(repeat, Repeat) and isinstance(repeat.inner, One):
+            digit, times = repeat.inner.text, repeat.least
+            if digit.isdigit() and repeat.most == times and repeat.inner.end < repeat.end:
+                shown = f'~{digit.decode()}{{{times}}}'
+                yield Advice(sign.start, f'{shown} is a ~ and {times} times the sign {digit.decode()}: a word with mismatches that has digits alone begins '
+                                         f'with a class, as ~{digit.decode()}{{[{str(times)[0]}]{str(times)[1:]}}}')

@@ -1,41 +1,16 @@
-"""Whole lines that a row touches, and a query without a capture as one that captures."""
+"""Whole lines that a row touches."""
 from __future__ import annotations
 
-import re
 from typing import Iterable, Iterator, List, NamedTuple, Optional, Tuple
 
-from ..formula import Atom, atoms_of, parts_of
 from ..match import Row
 from .packed import Given
 from .tables import coloured, extent_of
 
-__all__ = ['Shown', 'captured', 'count_lines', 'shown_lines']
+__all__ = ['Shown', 'count_lines', 'shown_lines']
 
 _Span = Tuple[int, int]
 _BLOCK = 1 << 20
-
-
-def captured(text: bytes) -> Optional[bytes]:
-    """The query with all of each formula captured, of one that has no capture; None where that would mean something else.
-
-    >>> captured(b'/^a|b/u union /c\\\\$/'), captured(b'/a/ join /b/')
-    (b'/^!match{a|b}/u union /!match{c\\\\$}/', None)
-    """
-    outside = re.sub(rb'/((?:[^\\/]|\\.)*)/(u(?!\w))?', b' ', text, flags=re.S)
-    if set(re.findall(rb'\w+', outside)) - {b'union'} or b'(' in outside:
-        return None
-    made, end = b'', 0
-    for atom in atoms_of(text):
-        made += text[end:atom.offset] + _captured(atom)
-        end = atom.offset + len(atom.text)
-    return made + text[end:]
-
-
-def _captured(atom: Atom) -> bytes:
-    parts = parts_of(atom)
-    first = 1 if parts and parts[0].kind == 'anchor' and parts[0].text == b'^' else 0
-    last = len(atom.text) - (1 if len(parts) > first and parts[-1].kind == 'anchor' and parts[-1].text == b'$' else 0)
-    return atom.text[:first] + b'!match{' + atom.text[first:last] + b'}' + atom.text[last:]
 
 
 class _Touched(NamedTuple):

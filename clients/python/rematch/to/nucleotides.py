@@ -1,95 +1,95 @@
 """The letters of a query on sequences: open letters of nucleotides as classes, and letters that no record has."""
 from __future__ import annotations
 
-import re
 from typing import FrozenSet, Iterator, List, NamedTuple, Optional
 
-from ..faults import QueryError
-from ..formula import Atom, Item, Part, items_of, letter_of, parts_of
+from .. import sets
+from ..reader import query_fault, read
+from ..tree import Item, One, ones_of
+from .cases import class_with
 
-__all__ = ['Small', 'open_letters', 'small_letter', 'with_iupac']
+__all__ = ['Small', 'has_plain_t', 'open_letters', 'small_letter', 'with_iupac']
 
 _BASES = frozenset(b'ACGT')
+# What a letter means; U is the T of RNA.
 _MEANS = {ord(letter): frozenset(of) for letter, of in (
-    (b'R', b'AG'), (b'Y', b'CTU'), (b'S', b'CG'), (b'W', b'ATU'), (b'K', b'GTU'), (b'M', b'AC'), (b'B', b'CGTU'),
-    (b'D', b'AGTU'), (b'H', b'ACTU'), (b'V', b'ACG'), (b'N', b'ACGTU'))}
-_ATOMS = re.compile(rb'/((?:[^\\/]|\\.)*)/', re.S)
-_WORD = frozenset(b'0123456789ABCDEFGHIJKLMNOPQRSTUVWXYZ_abcdefghijklmnopqrstuvwxyz')
-
-
-def _atoms(text: bytes) -> Iterator[Atom]:
-    for found in _ATOMS.finditer(text):
-        yield Atom(found[1], found.start(1), False)
+    (b'R', b'AG'), (b'Y', b'CT'), (b'S', b'CG'), (b'W', b'AT'), (b'K', b'GT'), (b'M', b'AC'), (b'B', b'CGT'),
+    (b'D', b'AGT'), (b'H', b'ACT'), (b'V', b'ACG'), (b'N', b'ACGT'))}
+_PLAIN = {**{base: frozenset((base,)) for base in _BASES}, ord('U'): frozenset(b'T')}
+_ALL_MEAN = {**_MEANS, **_PLAIN}
 
 
 # -- Open letters
 
 def _fitting(means: FrozenSet[int]) -> FrozenSet[int]:
-    """What stands for no more than these bases: they, and the open letters that mean some of them alone."""
-    return means | {letter for letter, of in _MEANS.items() if of <= means}
+    """The letters that mean no more than these bases."""
+    return frozenset(letter for letter, of in _ALL_MEAN.items() if of <= means)
 
 
 def _touching(means: FrozenSet[int]) -> FrozenSet[int]:
-    """What may stand for one of these bases: they, and the open letters that mean one of them, perhaps among others."""
-    return means | {letter for letter, of in _MEANS.items() if of & means}
+    """The letters that may be one of these bases."""
+    return frozenset(letter for letter, of in _ALL_MEAN.items() if of & means)
 
 
-def _has(items: List[Item]) -> FrozenSet[int]:
-    """The letters that a class names."""
-    named = [_WORD if item.text in (rb'\w', rb'\p{L}') else range(item.low, item.high + 1) if item.low is not None and item.high is not None else ()
-             for item in items]
-    return frozenset(byte for part in named for byte in part)
+def _has(one: One) -> FrozenSet[int]:
+    """The bytes of ASCII that a class names."""
+    named = [sets.WORD if item.name in (b'L', b'Lu', b'Alphabetic') else item.ranges() for item in one.items]
+    return sets.members(sets.shared(sets.united(found for part in named for found in part), ((0, 127),)))
 
 
-def _opens(items: List[Item]) -> FrozenSet[int]:
-    return frozenset(item.text[0] for item in items if len(item.text) == 1 and item.text[0] in _MEANS)
+def _meant(one: One) -> FrozenSet[int]:
+    """The bases that the letters of a class mean."""
+    return frozenset().union(*(_ALL_MEAN[letter] for letter in _has(one) if letter in _ALL_MEAN))
 
 
-def _is_cut(items: List[Item]) -> Optional[Item]:
+def _opens(one: One) -> FrozenSet[int]:
+    return frozenset(item.low for item in one.items if len(item.text) == 1 and item.low in _MEANS)
+
+
+def _is_cut(one: One) -> Optional[Item]:
     """A range with some open letters in a class that has not all bases, of which nobody knows what it means."""
-    if _BASES <= _has(items):
+    if _BASES <= _has(one):
         return None
-    return next((item for item in items if item.low is not None and item.high is not None and item.low < item.high
-                 and any(item.low <= letter <= item.high for letter in _MEANS)), None)
+    return next((item for item in one.items if item.low < item.high and any(item.low <= letter <= item.high for letter in _MEANS)), None)
 
 
-def _class_of(part: Part, query: bytes) -> bytes:
+def _class_of(one: One, query: bytes) -> bytes:
     """A class with what its open letters mean; of one that is negated everything that may be it is left out."""
-    items = items_of(part.text)
-    cut = _is_cut(items)
+    cut = _is_cut(one)
     if cut is not None:
-        fault = QueryError(f'query: unexpected at {part.offset + cut.offset}', 3, query)
-        fault.hint = f'with --iupac a range of letters is all of them or none: list those of {cut.text.decode()} that are meant'
-        raise fault
-    opens = _opens(items)
-    if not opens or _BASES <= _has(items):
-        return part.text
-    means = frozenset().union(*(_MEANS[letter] for letter in opens)) | (_has(items) & (_BASES | {ord('U')}))
-    is_negated = part.text.startswith(b'[^')
-    more = (_touching if is_negated else _fitting)(means) - _has(items)
-    start = 2 if is_negated else 1
-    return part.text[:start] + bytes(sorted(more)) + part.text[start:]
+        raise query_fault('unexpected', query, cut.start, f'with --iupac a range of letters is all of them or none: list those of {cut.text.decode()} that '
+                          'are meant')
+    if not _opens(one) or _BASES <= _has(one):
+        return one.text
+    more = (_touching if one.is_negated else _fitting)(_meant(one)) - _has(one)
+    return class_with(one, bytes(sorted(more)))
+
+
+def _ones(text: bytes) -> Iterator[One]:
+    return (one for atom in read(text).atoms for one in ones_of(atom.formula))
 
 
 def with_iupac(text: bytes) -> bytes:
     r"""The query with each open letter of nucleotides in it, as N or R, as the letters that it means, also within classes.
 
-    A letter of the query fits what means no more than it does; a negated class fits nothing that may be one of its letters.
-    Escapes stay as they are, and names too. `QueryError` for a range that has some open letters and not all bases.
+    A letter of the query fits what means no more than it does, where U means what T means; a negated class fits nothing that
+    may be one of its letters. A class without an open letter, or with all bases, stays as it is. `QueryError` for a range that
+    has some open letters and not all bases.
 
     >>> with_iupac(b'/!N{GRC[YG]}[^R]/')
     b'/!N{G[AGR]C[BCKSTUYG]}[^ABDGHKMNSVWR]/'
+    >>> with_iupac(b'/[-R][ST]/')
+    b'/[AG\\-R][BCGKUYST]/'
     """
     made, end = b'', 0
-    for atom in _atoms(text):
-        for part in parts_of(atom):
-            changed = part.text
-            if part.kind == 'literal' and part.text[0] in _MEANS:
-                changed = b'[' + bytes(sorted(_fitting(_MEANS[part.text[0]]))) + b']'
-            elif part.kind == 'class':
-                changed = _class_of(part, text)
-            made += text[end:part.offset] + changed
-            end = part.offset + len(part.text)
+    for one in _ones(text):
+        changed = one.text
+        if one.kind == 'literal' and one.number in _MEANS:
+            changed = b'[' + bytes(sorted(_fitting(_MEANS[one.number]))) + b']'
+        elif one.kind == 'class':
+            changed = _class_of(one, text)
+        made += text[end:one.start] + changed
+        end = one.end
     return made + text[end:]
 
 
@@ -100,15 +100,21 @@ def open_letters(text: bytes) -> bytes:
     b'NY'
     """
     found = set()
-    for atom in _atoms(text):
-        for part in parts_of(atom):
-            if part.kind == 'literal' and part.text[0] in _MEANS:
-                found.add(part.text[0])
-            elif part.kind == 'class':
-                items = items_of(part.text)
-                found |= set() if _BASES <= _has(items) else {
-                    letter for letter in _opens(items) if not _MEANS[letter] - {ord('U')} <= _has(items)}
+    for one in _ones(text):
+        if one.kind == 'literal' and one.number in _MEANS:
+            found.add(one.number)
+        elif one.kind == 'class' and not _BASES <= _has(one):
+            found |= {letter for letter in _opens(one) if not _MEANS[letter] <= _has(one)}
     return bytes(sorted(found))
+
+
+def has_plain_t(text: bytes) -> bool:
+    """Whether a query asks somewhere for a T and not for a U.
+
+    >>> has_plain_t(b'/!x{TATA}/'), has_plain_t(b'/!x{[TU]A.}/')
+    (True, False)
+    """
+    return any(ord('T') in _has(one) and ord('U') not in _has(one) and not one.is_negated for one in _ones(text) if one.kind != 'dot')
 
 
 # -- Small letters
@@ -121,37 +127,38 @@ class Small(NamedTuple):
 
 
 def small_letter(text: bytes) -> Optional[Small]:
-    """The first small letter of a query that stands without its capital, and what to write; None where there is none.
+    """The first small letter of a query that is there without its capital, and what to write; None where there is none.
 
     Letters of records are raised, so that such a letter fits nothing.
 
     >>> small_letter(b'/!x{GATC[gA]}/'), small_letter(rb'/!x{[Aa]\\w\\n}/')
     (Small(offset=9, meant='G'), None)
     """
-    for atom in _atoms(text):
-        parts = parts_of(atom)
-        for k, part in enumerate(parts):
-            if part.kind in ('literal', 'escape') and letter_of(part.text).islower():
-                run = b''
-                for other in parts[k:]:
-                    letter = letter_of(other.text) if other.kind in ('literal', 'escape') else b''
-                    if not letter:
-                        break
-                    run += letter
-                return Small(part.offset, run.upper().decode())
-            small = _small_of_class(part) if part.kind == 'class' and not part.text.startswith(b'[^') else None
-            if small is not None:
-                return small
+    ones = list(_ones(text))
+    for k, one in enumerate(ones):
+        if 97 <= one.number <= 122:
+            run = _run_of_letters(ones[k:])
+            return Small(one.start, run.upper())
+        found = _small_of_class(one) if one.kind == 'class' and not one.is_negated else None
+        if found is not None:
+            return found
     return None
 
 
-def _small_of_class(part: Part) -> Optional[Small]:
-    items = items_of(part.text)
-    has = _has(items)
-    for item in items:
-        if item.low is None or item.high is None:
-            continue
+def _run_of_letters(ones: List[One]) -> str:
+    """The letters that follow each other at the beginning, without a sign between them."""
+    run = ''
+    for one, before in zip(ones, [None, *ones]):
+        if not (65 <= one.number <= 90 or 97 <= one.number <= 122) or (before is not None and before.end != one.start):
+            break
+        run += chr(one.number)
+    return run
+
+
+def _small_of_class(one: One) -> Optional[Small]:
+    has = _has(one)
+    for item in one.items:
         for byte in range(max(item.low, 97), min(item.high, 122) + 1):
             if byte - 32 not in has:
-                return Small(part.offset + item.offset, item.text.decode('utf-8', 'replace').upper())
+                return Small(item.start, item.text.decode('utf-8', 'replace').upper())
     return None

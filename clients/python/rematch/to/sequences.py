@@ -17,6 +17,7 @@ from ..documents import MOST_BYTES
 from ..faults import DocumentError
 from ..match import Row
 from ..query import Query
+from ..reader import read
 from .._reach import NoReach, length_of_printed
 
 __all__ = ['GFF_HEAD', 'Record', 'Site', 'are_proteins', 'bed_lines', 'each_record', 'fasta_lines', 'frame_of', 'gff_lines',
@@ -193,8 +194,7 @@ def sites(query: Query, data: bytes, *, both: bool = True, left_out: Optional[Ca
 
 def has_anchor(query: Query) -> bool:
     """Whether an anchor stands in the query, which would speak of all records together."""
-    from ..formula import atoms_of, parts_of
-    return any(part.kind == 'anchor' for atom in atoms_of(query.printed.encode()) for part in parts_of(atom))
+    return any(atom.is_first or atom.is_last for atom in read(query.printed, is_limited=False).atoms)
 
 
 def _batches(records: Iterable[Record]) -> Iterator[Sequence[Record]]:
