@@ -45,13 +45,17 @@ uint32_t rematch_c_cursor(rematch_rows *rows, const uint32_t *row, size_t number
 struct written {
     size_t rows, notes;
 };
-uint32_t rematch_c_begin_run(struct rematch_slot *run);
-uint32_t rematch_c_add_word(struct rematch_slot *run, const void *word, size_t length);
-uint32_t rematch_c_add_document(struct rematch_slot *run, const void *name, size_t name_length, const void *bytes, size_t length);
-uint32_t rematch_c_run(struct rematch_slot *run, const void *input, size_t length, char *rows, size_t row_room, char *notes,
+struct run { /* a slot too */
+    void *at;
+    bool held;
+};
+uint32_t rematch_c_begin_run(struct run *run);
+uint32_t rematch_c_add_word(struct run *run, const void *word, size_t length);
+uint32_t rematch_c_add_document(struct run *run, const void *name, size_t name_length, const void *bytes, size_t length);
+uint32_t rematch_c_run(struct run *run, const void *input, size_t length, char *rows, size_t row_room, char *notes,
                        size_t note_room, struct written *written);
 uint32_t rematch_c_fill(rematch_rows *rows, uint32_t *out, size_t room, size_t most, size_t *given);
-void rematch_c_close(struct rematch_slot *slot);
+void rematch_c_close(void *slot);
 
 /* Whether so many bytes may stand there. Where there are none, `*at` becomes a pointer that is not null. */
 static bool stands(const void **at, size_t length) {
@@ -60,40 +64,81 @@ static bool stands(const void **at, size_t length) {
     return *at != NULL && length <= PTRDIFF_MAX;
 }
 
-static uint32_t refused(rematch_text *note) {
+/* Refuses a call, and says why where there is room for a note. */
+static uint32_t refused(rematch_text *note, const char *why) {
     if (note != NULL) {
-        note->length = 0;
-        note->bytes[0] = 0;
+        note->length = strlen(why);
+        memcpy(note->bytes, why, note->length + 1);
     }
     return REMATCH_CALL;
 }
 
+static const char *const null = "call: a null pointer";
+
+/* Why no text or document may stand there; null where one may. */
+static const char *fault_at(const void **at, size_t length) {
+    if (stands(at, length))
+        return NULL;
+    return *at == NULL ? null : "call: a length past any memory";
+}
+
+/* The status of a proved call over a query's slot, whose refusal of the slot has no note of its own. */
+static uint32_t told(uint32_t status, const rematch_query *query, rematch_text *note) {
+    if (status != REMATCH_CALL)
+        return status;
+    return refused(note, query->held ? "call: the query's slot has rows" : "call: the query's slot is empty");
+}
+
 uint32_t rematch_compile(const void *text, size_t length, rematch_query *query, rematch_text *note) {
     rematch_text own;
-    if (query == NULL || !stands(&text, length))
-        return refused(note);
+    const char *why = query == NULL ? null : fault_at(&text, length);
+    if (why != NULL) {
+        rematch_close(query);
+        return refused(note, why);
+    }
     return rematch_c_compile(text, length, query, note != NULL ? note : &own);
 }
 
 uint32_t rematch_variables(rematch_query *query, size_t *count) {
+    if (count != NULL)
+        *count = 0;
     return query == NULL || count == NULL ? REMATCH_CALL : rematch_c_variables(query, count);
 }
 
 uint32_t rematch_variable(rematch_query *query, size_t place, rematch_text *name) {
-    return query == NULL || name == NULL ? refused(name) : rematch_c_variable(query, place, name);
+    return query == NULL || name == NULL ? refused(name, "") : rematch_c_variable(query, place, name);
 }
 
 uint32_t rematch_share(rematch_query *query, rematch_query *other) {
-    return query == NULL || other == NULL || query == other ? REMATCH_CALL : rematch_c_share(query, other);
+    if (query == other)
+        return REMATCH_CALL;
+    if (query == NULL)
+        rematch_close(other);
+    return query == NULL || other == NULL ? REMATCH_CALL : rematch_c_share(query, other);
+}
+
+/* Why a document is not read: of its slots and of where it is. */
+static const char *fault_of_open(const rematch_query *query, const rematch_rows *rows, const void **document, size_t length) {
+    if (query == NULL || rows == NULL)
+        return null;
+    return (const void *)query == rows ? "call: the slots are one" : fault_at(document, length);
+}
+
+/* Refuses to read a document: the rows are gone, unless their slot is the query's. */
+static uint32_t refused_open(const rematch_query *query, rematch_rows *rows, rematch_text *note, const char *why) {
+    if ((const void *)query != rows)
+        rematch_close(rows);
+    return refused(note, why);
 }
 
 uint32_t rematch_open(rematch_query *query, const void *document, size_t length, const rematch_options *options,
                       rematch_rows *rows, rematch_text *note) {
     static const rematch_options usual = REMATCH_OPTIONS;
-    rematch_text own;
-    if (query == NULL || rows == NULL || query == rows || !stands(&document, length))
-        return refused(note);
-    return rematch_c_open(query, document, length, options != NULL ? options : &usual, rows, note != NULL ? note : &own);
+    rematch_text own, *told_to = note != NULL ? note : &own;
+    const char *why = fault_of_open(query, rows, &document, length);
+    if (why != NULL)
+        return refused_open(query, rows, note, why);
+    return told(rematch_c_open(query, document, length, options != NULL ? options : &usual, rows, told_to), query, told_to);
 }
 
 /* Whether all rows are asked for. */
@@ -104,18 +149,23 @@ static bool is_start(const char *cursor, size_t length) {
 uint32_t rematch_open_after(rematch_query *query, const void *document, size_t length, const rematch_options *options,
                             const char *cursor, size_t cursor_length, rematch_rows *rows, rematch_text *note) {
     static const rematch_options usual = REMATCH_OPTIONS;
-    rematch_text own;
+    rematch_text own, *told_to = note != NULL ? note : &own;
     if (is_start(cursor, cursor_length))
         return rematch_open(query, document, length, options, rows, note);
-    if (query == NULL || rows == NULL || query == rows || !stands(&document, length) || cursor == NULL || cursor_length > PTRDIFF_MAX)
-        return refused(note);
-    return rematch_c_resume(query, document, length, options != NULL ? options : &usual, cursor, cursor_length, rows,
-                            note != NULL ? note : &own);
+    const void *at = cursor;
+    const char *why = fault_of_open(query, rows, &document, length);
+    why = why != NULL ? why : fault_at(&at, cursor_length);
+    if (why != NULL)
+        return refused_open(query, rows, note, why);
+    return told(rematch_c_resume(query, document, length, options != NULL ? options : &usual, at, cursor_length, rows, told_to), query,
+                told_to);
 }
 
 uint32_t rematch_cursor(rematch_rows *rows, const uint32_t *row, size_t numbers, char *text, size_t room, size_t *length) {
     static const uint32_t none;
     static char nothing;
+    if (length != NULL)
+        *length = 0;
     if (rows == NULL || length == NULL || (row == NULL && numbers != 0) || (text == NULL && room != 0)
         || numbers > PTRDIFF_MAX / sizeof *row || room > PTRDIFF_MAX)
         return REMATCH_CALL;
@@ -124,6 +174,8 @@ uint32_t rematch_cursor(rematch_rows *rows, const uint32_t *row, size_t numbers,
 
 uint32_t rematch_fill(rematch_rows *rows, uint32_t *out, size_t room, size_t most, size_t *given) {
     static uint32_t none;
+    if (given != NULL)
+        *given = 0;
     if (rows == NULL || given == NULL || (out == NULL && room != 0) || room > PTRDIFF_MAX / sizeof *out)
         return REMATCH_CALL;
     return rematch_c_fill(rows, out != NULL ? out : &none, room, most, given);
@@ -162,7 +214,7 @@ static char *memory_of(const rematch_output *output) {
 }
 
 /* Gives a run its words and documents. */
-static uint32_t given(struct rematch_slot *run, const rematch_command *command) {
+static uint32_t given(struct run *run, const rematch_command *command) {
     uint32_t status = rematch_c_begin_run(run);
     for (size_t k = 0; status == REMATCH_DONE && k < command->word_count; k++)
         status = rematch_c_add_word(run, command->words[k], strlen(command->words[k]));
@@ -177,7 +229,7 @@ static uint32_t given(struct rematch_slot *run, const rematch_command *command) 
 }
 
 uint32_t rematch_run(const rematch_command *command, rematch_output *rows, rematch_output *notes) {
-    struct rematch_slot run = REMATCH_NONE;
+    struct run run = REMATCH_NONE;
     struct written written = {0, 0};
     bool are_ready = is_ready(rows) & is_ready(notes);
     if (command == NULL || !are_ready || rows == notes || !is_whole(command))
@@ -193,7 +245,7 @@ uint32_t rematch_run(const rematch_command *command, rematch_output *rows, remat
     return status;
 }
 
-void rematch_close(struct rematch_slot *slot) {
+void rematch_close(void *slot) {
     if (slot != NULL)
         rematch_c_close(slot);
 }

@@ -8,11 +8,9 @@ import subprocess
 HERE = os.path.dirname(os.path.abspath(__file__))
 ROOT = os.path.dirname(HERE)
 PACKED = os.path.join(HERE, 'rematch-x86_64-linux.gz')
-SOURCES = os.path.join(HERE, 'SOURCES')
 BUILT = os.path.join(ROOT, 'crates', 'rematch', 'out', 'rematch')
+CRATES = ['crates', 'crates.txt']  # what the proofs are about
 GLIBC = (2, 34)  # the oldest C library that the program runs on
-KEYS = ['crates', 'crates.txt', 'files', 'toolchain', 'program', 'packed']
-HEAD = '# What rematch-x86_64-linux.gz was built from. release/update writes this, and release/verify checks it.\n'
 
 
 class Refused(Exception):
@@ -35,20 +33,47 @@ def git(*words):
     return done.stdout
 
 
-def named():
-    """The lines of SOURCES, by their first words."""
-    try:
-        lines = read(SOURCES).decode().splitlines()
-    except (OSError, UnicodeDecodeError):
-        raise Refused('there is no text release/SOURCES; release/update writes it')
-    found = dict(line.partition(' ')[::2] for line in lines if line and not line.startswith('#'))
-    if sorted(found) != sorted(KEYS):
-        raise Refused('release/SOURCES has not the lines %s' % ', '.join(KEYS))
-    return found
+def write(path, data):
+    with open(path + '.new', 'wb') as file:
+        file.write(data)
+    os.replace(path + '.new', path)
 
 
-def text_of(values):
-    return HEAD + ''.join('%s %s\n' % (key, values[key]) for key in KEYS)
+class Text:
+    """A text of this folder: what a released file is, and a line for each key."""
+
+    def __init__(self, name, says, keys):
+        self.name, self.keys = name, keys
+        self.path = os.path.join(HERE, name)
+        self.head = '# %s release/update writes this, and release/verify checks it.\n' % says
+
+    def named(self):
+        """The values of the lines, by their keys."""
+        try:
+            lines = read(self.path).decode().splitlines()
+        except (OSError, UnicodeDecodeError):
+            raise Refused('there is no text release/%s; release/update writes it' % self.name)
+        found = dict(line.partition(' ')[::2] for line in lines if line and not line.startswith('#'))
+        if sorted(found) != sorted(self.keys):
+            raise Refused('release/%s has not the lines %s' % (self.name, ', '.join(self.keys)))
+        return found
+
+    def write(self, values):
+        write(self.path, self.text_of(values))
+
+    def text_of(self, values):
+        return (self.head + ''.join('%s %s\n' % (key, values[key]) for key in self.keys)).encode()
+
+    def faults(self, values, data=None):
+        """What is wrong with the text, and with the packed file beside it, in lines."""
+        if data is not None and sum_of(data) != values['packed']:
+            yield 'the packed file has not the sum that %s names' % self.name
+        if read(self.path) != self.text_of(values):
+            yield '%s is not as release/update writes it' % self.name
+
+
+SOURCES = Text('SOURCES', 'What rematch-x86_64-linux.gz was built from.',
+               ['crates', 'crates.txt', 'files', 'toolchain', 'program', 'packed'])
 
 
 def packed(program):
@@ -58,19 +83,25 @@ def packed(program):
 
 def program_here(values):
     """The bytes of the released program, checked by their sum."""
+    return unpacked_bytes(PACKED, values['program'], 'SOURCES')
+
+
+def unpacked_bytes(path, wanted, text):
+    """What is packed in a file of this folder, checked by the sum that a text names."""
+    name = os.path.basename(path)
     try:
-        program = gzip.decompress(read(PACKED))
+        program = gzip.decompress(read(path))
     except (OSError, EOFError, ValueError, gzip.zlib.error):
-        raise Refused('release/rematch-x86_64-linux.gz is damaged')
-    if sum_of(program) != values['program']:
-        raise Refused('release/rematch-x86_64-linux.gz is not the program that release/SOURCES names')
+        raise Refused('release/%s is damaged' % name)
+    if sum_of(program) != wanted:
+        raise Refused('release/%s is not the program that release/%s names' % (name, text))
     return program
 
 
 def unpacked(folder):
     """The path of the released program, unpacked into this folder."""
     path = os.path.join(folder, 'rematch')
-    program = program_here(named())
+    program = program_here(SOURCES.named())
     with open(path, 'wb') as file:
         file.write(program)
     os.chmod(path, 0o755)
@@ -79,14 +110,34 @@ def unpacked(folder):
 
 # --- The sources ---------------------------------------------------------------------------------
 
-def changed():
-    """The files of the crates that git has not, or has in another form, as it prints them."""
-    return git('status', '--porcelain', '--untracked-files=all', '--', 'crates', 'crates.txt').splitlines()
+def changed(names=CRATES):
+    """The files below these names that git has not, or has in another form, as it prints them."""
+    return git('status', '--porcelain', '--untracked-files=all', '--', *names).splitlines()
+
+
+def ids_of(names):
+    """Git's ids of these names, as they were committed last."""
+    return dict(zip(names, git('rev-parse', *('HEAD:' + name for name in names)).split()))
+
+
+def newer_sources(built):
+    """The sources of the crates that are newer than what was built of them."""
+    time = os.stat(built).st_mtime
+    for name in git('ls-files', '-z', '--', *CRATES).split('\0'):
+        is_source = name.endswith(('.rt', '.antt')) and '/must-fail/' not in name or name == 'crates.txt'
+        if is_source and os.stat(os.path.join(ROOT, name)).st_mtime > time:
+            yield name
+
+
+def check_newer(built):
+    """Refuses what is older than its sources."""
+    for name in newer_sources(built):
+        raise Refused('%s is newer than %s; touch that file if it was built from these sources' % (name, built))
 
 
 def sum_of_files():
     """The sum that the script `rematch` makes of all files of the crates without git: of a line `SUM  NAME` for each."""
-    names = sorted(git('ls-files', '-z', '--', 'crates', 'crates.txt').encode().split(b'\0')[:-1])
+    names = sorted(git('ls-files', '-z', '--', *CRATES).encode().split(b'\0')[:-1])
     root = ROOT.encode()
     lines = b''.join(b'%s  %s\n' % (sum_of(read(os.path.join(root, name))).encode(), name) for name in names)
     return sum_of(lines)
@@ -94,17 +145,22 @@ def sum_of_files():
 
 def of_head():
     """What SOURCES has to say of the sources that were committed last."""
-    ids = git('rev-parse', 'HEAD:crates', 'HEAD:crates.txt').split()
-    return {'crates': ids[0], 'crates.txt': ids[1], 'files': sum_of_files()}
+    return {**ids_of(CRATES), 'files': sum_of_files()}
+
+
+def first_line(*words):
+    """The first line that a tool says of itself; `none` where it is not installed."""
+    try:
+        done = subprocess.run(words, stdout=subprocess.PIPE, stderr=subprocess.DEVNULL, universal_newlines=True)
+    except OSError:
+        return 'none'
+    return done.stdout.split('\n')[0].strip()
 
 
 def toolchain():
     """The identity of the toolchain; None where there is none on the path."""
-    try:
-        done = subprocess.run(['rt', 'version'], stdout=subprocess.PIPE, stderr=subprocess.DEVNULL, universal_newlines=True)
-    except OSError:
-        return None
-    return done.stdout.strip() or None
+    said = first_line('rt', 'version')
+    return None if said in ('', 'none') else said
 
 
 def glibc_of(program):

@@ -65,12 +65,20 @@ def _library():
     named = os.environ.get('REMATCH_LIBRARY')
     if named:
         return None if named == 'none' else _read(named)
-    packed, sums = (os.path.join(ROOT, 'release', name) for name in ('librematch-x86_64-linux.tar.gz', 'LIBRARY'))
+    packed, sums = (os.path.join(ROOT, 'release', name) for name in ('librematch-x86_64-linux.tar.xz', 'LIBRARY'))
     if not os.path.isfile(packed) or not os.path.isfile(sums) or not _runs_released():
         return None
     wanted = re.search('^librematch.so.1 (.+)$', _read(sums).decode(), re.M)
-    with tarfile.open(packed) as tar:
-        library = tar.extractfile('librematch.so.1').read()
+    try:
+        with tarfile.open(packed) as tar:
+            library = tar.extractfile('librematch.so.1').read()
+    except tarfile.ReadError:
+        try:
+            import lzma  # noqa: F401
+        except ImportError:
+            print('the wheel has no library, since this Python has no lzma: queries run the program', file=sys.stderr)
+            return None
+        library = b''
     if not wanted or hashlib.sha256(library).hexdigest() != wanted[1]:
         raise RuntimeError('the release is damaged: librematch.so.1 is not the library that LIBRARY names')
     return library

@@ -91,30 +91,79 @@ static void refuses_documents(void) {
     rematch_close(&query);
 }
 
+static bool is_told(const rematch_text *note, const char *text) {
+    return note->length == strlen(text) && memcmp(note->bytes, text, note->length + 1) == 0;
+}
+
+/* A call that is refused for its words leaves the slot empty that it would have filled, and the numbers that it gives are 0. */
+static void leaves_empty_slots(void) {
+    rematch_query query = REMATCH_NONE, other = REMATCH_NONE;
+    rematch_rows rows = REMATCH_NONE;
+    rematch_text note;
+    char cursor[REMATCH_MOST_CURSOR];
+    uint32_t out[2];
+    size_t number;
+    compiled(&query, "/!x{a}/");
+    for (int turn = 0; turn < 8; turn++) {
+        const bool is_later = turn >= 4;
+        CHECK(rematch_open(&query, TEXT("aa"), NULL, &rows, NULL) == REMATCH_DONE && rows.held);
+        rematch_query *given = turn % 4 == 1 ? NULL : turn % 4 == 3 ? &other : &query;
+        const char *document = turn % 4 == 0 ? NULL : "aa";
+        const size_t length = turn % 4 == 2 ? (size_t)-1 : 5;
+        if (is_later)
+            CHECK(rematch_open_after(given, document, length, NULL, TEXT("c2:5;x:0-1"), &rows, &note) == REMATCH_CALL);
+        else
+            CHECK(rematch_open(given, document, length, NULL, &rows, &note) == REMATCH_CALL);
+        CHECK(!rows.held && query.held && !other.held && note.length > 0);
+        number = 7;
+        CHECK(rematch_fill(&rows, out, 2, 1, &number) == REMATCH_CALL && number == 0);
+    }
+    CHECK(rematch_open(&query, TEXT("aa"), NULL, &rows, NULL) == REMATCH_DONE);
+    CHECK(rematch_open_after(&query, TEXT("aa"), NULL, NULL, 3, &rows, &note) == REMATCH_CALL && !rows.held);
+    CHECK(rematch_share(&query, &other) == REMATCH_DONE && other.held);
+    CHECK(rematch_share(NULL, &other) == REMATCH_CALL && !other.held);
+    CHECK(rematch_share(&query, &query) == REMATCH_CALL && query.held);
+    CHECK(rematch_open(&query, TEXT("aa"), NULL, &rows, NULL) == REMATCH_DONE);
+    number = 7;
+    CHECK(rematch_fill(&rows, NULL, 2, 1, &number) == REMATCH_CALL && number == 0);
+    number = 7;
+    CHECK(rematch_cursor(&rows, NULL, 2, cursor, sizeof cursor, &number) == REMATCH_CALL && number == 0);
+    number = 7;
+    CHECK(rematch_variables(NULL, &number) == REMATCH_CALL && number == 0);
+    CHECK(rematch_compile(NULL, 5, &query, &note) == REMATCH_CALL && !query.held);
+    compiled(&query, "/a/");
+    CHECK(rematch_compile("/a/", (size_t)-1, &query, NULL) == REMATCH_CALL && !query.held);
+    rematch_close(&rows);
+}
+
 static void refuses_calls(void) {
     rematch_query query = REMATCH_NONE, other = REMATCH_NONE;
     rematch_rows rows = REMATCH_NONE;
     rematch_text note;
     uint32_t out[4];
     size_t count;
-    CHECK(rematch_compile(NULL, 1, &query, &note) == REMATCH_CALL && note.length == 0);
-    CHECK(rematch_compile(TEXT("/a/"), NULL, &note) == REMATCH_CALL);
-    CHECK(rematch_compile("/a/", (size_t)-1, &query, &note) == REMATCH_CALL);
-    CHECK(rematch_open(&query, TEXT("a"), NULL, &rows, &note) == REMATCH_CALL);
+    CHECK(rematch_compile(NULL, 1, &query, &note) == REMATCH_CALL && is_told(&note, "call: a null pointer"));
+    CHECK(rematch_compile(TEXT("/a/"), NULL, &note) == REMATCH_CALL && is_told(&note, "call: a null pointer"));
+    CHECK(rematch_compile("/a/", (size_t)-1, &query, &note) == REMATCH_CALL && is_told(&note, "call: a length past any memory"));
+    CHECK(rematch_open(&query, TEXT("a"), NULL, &rows, &note) == REMATCH_CALL && is_told(&note, "call: the query's slot is empty"));
+    CHECK(rematch_open(&query, TEXT("a"), NULL, &rows, NULL) == REMATCH_CALL);
     CHECK(rematch_fill(&rows, out, 4, 1, &count) == REMATCH_CALL && count == 0);
     CHECK(rematch_share(&query, &other) == REMATCH_CALL);
     compiled(&query, "/!x{a}/");
-    CHECK(rematch_open(&query, NULL, 1, NULL, &rows, &note) == REMATCH_CALL);
-    CHECK(rematch_open(&query, TEXT("a"), NULL, NULL, &note) == REMATCH_CALL);
-    CHECK(rematch_open(NULL, TEXT("a"), NULL, &rows, &note) == REMATCH_CALL);
-    CHECK(rematch_open(&query, TEXT("a"), NULL, &query, &note) == REMATCH_CALL && query.held);
+    CHECK(rematch_open(&query, NULL, 1, NULL, &rows, &note) == REMATCH_CALL && is_told(&note, "call: a null pointer"));
+    CHECK(rematch_open(&query, TEXT("a"), NULL, NULL, &note) == REMATCH_CALL && is_told(&note, "call: a null pointer"));
+    CHECK(rematch_open(NULL, TEXT("a"), NULL, &rows, &note) == REMATCH_CALL && is_told(&note, "call: a null pointer"));
+    CHECK(rematch_open(&query, TEXT("a"), NULL, (rematch_rows *)&query, &note) == REMATCH_CALL && query.held);
+    CHECK(is_told(&note, "call: the slots are one"));
     CHECK(rematch_share(&query, &query) == REMATCH_CALL && rematch_share(NULL, &other) == REMATCH_CALL);
     CHECK(rematch_variables(&query, NULL) == REMATCH_CALL && rematch_variable(&query, 0, NULL) == REMATCH_CALL);
     /* a slot of the other kind */
-    CHECK(rematch_fill(&query, out, 4, 1, &count) == REMATCH_CALL && count == 0);
-    CHECK(rematch_open(&query, TEXT("aa"), NULL, &rows, &note) == REMATCH_DONE);
-    CHECK(rematch_variables(&rows, &count) == REMATCH_CALL && rematch_share(&rows, &other) == REMATCH_CALL);
-    CHECK(rematch_open(&rows, TEXT("a"), NULL, &other, &note) == REMATCH_CALL && rows.held);
+    rematch_query *wrong_query = (rematch_query *)&rows;
+    CHECK(rematch_fill((rematch_rows *)&query, out, 4, 1, &count) == REMATCH_CALL && count == 0);
+    CHECK(rematch_open(&query, TEXT("aa"), NULL, &rows, &note) == REMATCH_DONE && is_told(&note, ""));
+    CHECK(rematch_variables(wrong_query, &count) == REMATCH_CALL && rematch_share(wrong_query, &other) == REMATCH_CALL);
+    CHECK(rematch_open(wrong_query, TEXT("a"), NULL, (rematch_rows *)&other, &note) == REMATCH_CALL && rows.held);
+    CHECK(is_told(&note, "call: the query's slot has rows"));
     CHECK(rematch_fill(&rows, NULL, 4, 1, &count) == REMATCH_CALL && rematch_fill(&rows, out, 4, 1, NULL) == REMATCH_CALL);
     CHECK(rematch_fill(&rows, out, (size_t)-1, 1, &count) == REMATCH_CALL);
     CHECK(rest_of(&rows) == 2);
@@ -152,7 +201,7 @@ static void goes_on_behind_a_cursor(void) {
     CHECK(rematch_cursor(&rows, out, 3, cursor, 99, &other) == REMATCH_CALL);
     CHECK(rematch_cursor(&rows, NULL, 4, cursor, 99, &other) == REMATCH_CALL);
     CHECK(rematch_cursor(&rows, out, 4, cursor, 99, NULL) == REMATCH_CALL);
-    CHECK(rematch_cursor(&query, out, 4, cursor, 99, &other) == REMATCH_CALL && other == 0);
+    CHECK(rematch_cursor((rematch_rows *)&query, out, 4, cursor, 99, &other) == REMATCH_CALL && other == 0);
     /* an absent span */
     const uint32_t alone[4] = {0, 1, REMATCH_ABSENT, REMATCH_ABSENT};
     CHECK(rematch_cursor(&rows, alone, 4, cursor, 99, &length) == REMATCH_DONE);
@@ -172,7 +221,7 @@ static void goes_on_behind_a_cursor(void) {
         CHECK(rematch_open_after(&query, TEXT("abab"), NULL, TEXT(faults[k].cursor), &rows, &note) == REMATCH_CURSOR);
         CHECK(!rows.held && strcmp(note.bytes, faults[k].note) == 0);
     }
-    CHECK(rematch_open_after(&query, TEXT("abab"), NULL, NULL, 1, &rows, &note) == REMATCH_CALL && note.length == 0);
+    CHECK(rematch_open_after(&query, TEXT("abab"), NULL, NULL, 1, &rows, &note) == REMATCH_CALL && is_told(&note, "call: a null pointer"));
     CHECK(rematch_cursor(&rows, out, 4, cursor, 99, &other) == REMATCH_CALL && other == 0);
     /* a cursor of no variable */
     compiled(&query, "/a/");
@@ -186,26 +235,29 @@ static void goes_on_behind_a_cursor(void) {
 /* A query, another slot of it and two rows are closed in each of the 24 orders, and used until then. */
 static void closes_in_all_orders(void) {
     for (int order = 0; order < 24; order++) {
-        struct rematch_slot slots[4] = {REMATCH_NONE, REMATCH_NONE, REMATCH_NONE, REMATCH_NONE};
-        compiled(&slots[0], "/!x{A+}/ union /!x{A}B/ where upper(x)");
-        CHECK(rematch_share(&slots[0], &slots[1]) == REMATCH_DONE);
-        CHECK(rematch_open(&slots[0], TEXT("AB"), NULL, &slots[2], NULL) == REMATCH_DONE);
-        CHECK(rematch_open(&slots[1], TEXT("ABAB"), NULL, &slots[3], NULL) == REMATCH_DONE);
+        rematch_query queries[2] = {REMATCH_NONE, REMATCH_NONE};
+        rematch_rows rows[2] = {REMATCH_NONE, REMATCH_NONE};
+        compiled(&queries[0], "/!x{A+}/ union /!x{A}B/ where upper(x)");
+        CHECK(rematch_share(&queries[0], &queries[1]) == REMATCH_DONE);
+        CHECK(rematch_open(&queries[0], TEXT("AB"), NULL, &rows[0], NULL) == REMATCH_DONE);
+        CHECK(rematch_open(&queries[1], TEXT("ABAB"), NULL, &rows[1], NULL) == REMATCH_DONE);
         int left[4] = {0, 1, 2, 3};
         for (int size = 4, rest = order; size > 0; size--) {
             int at = rest % size;
             rest /= size;
-            rematch_close(&slots[left[at]]);
-            CHECK(!slots[left[at]].held);
+            if (left[at] < 2)
+                rematch_close(&queries[left[at]]);
+            else
+                rematch_close(&rows[left[at] - 2]);
+            CHECK(left[at] < 2 ? !queries[left[at]].held : !rows[left[at] - 2].held);
             left[at] = left[size - 1];
             for (int k = 0; k < size - 1; k++) {
                 uint32_t out[2];
                 size_t count;
-                CHECK(slots[left[k]].held);
                 if (left[k] < 2)
-                    CHECK(rematch_variables(&slots[left[k]], &count) == REMATCH_DONE && count == 1);
+                    CHECK(rematch_variables(&queries[left[k]], &count) == REMATCH_DONE && count == 1);
                 else
-                    CHECK(rematch_fill(&slots[left[k]], out, 2, 1, &count) == REMATCH_DONE);
+                    CHECK(rematch_fill(&rows[left[k] - 2], out, 2, 1, &count) == REMATCH_DONE);
             }
         }
     }
@@ -234,6 +286,7 @@ int main(void) {
     runs_tests_of_spans();
     refuses_documents();
     refuses_calls();
+    leaves_empty_slots();
     goes_on_behind_a_cursor();
     closes_in_all_orders();
     asks_a_thousand_documents();

@@ -31,9 +31,9 @@ void __wrap_free(void *block) {
 }
 
 /* Whether a call was refused for want of memory; otherwise it was done. */
-static bool wants(uint32_t status, const struct rematch_slot *slot, const rematch_text *note) {
+static bool wants(uint32_t status, const bool *held, const rematch_text *note) {
     CHECK(status == REMATCH_DONE || status == REMATCH_MEMORY);
-    CHECK(slot->held == (status == REMATCH_DONE));
+    CHECK(*held == (status == REMATCH_DONE));
     if (note != NULL)
         CHECK(strcmp(note->bytes, status == REMATCH_DONE ? "" : "out of memory") == 0);
     return status == REMATCH_MEMORY;
@@ -46,7 +46,7 @@ static bool went_on(rematch_query *query, const char *document, const rematch_op
     size_t variables, given, length;
     rematch_text note;
     CHECK(rematch_variables(query, &variables) == REMATCH_DONE && variables <= 4);
-    if (wants(rematch_open(query, TEXT(document), options, rows, &note), rows, &note))
+    if (wants(rematch_open(query, TEXT(document), options, rows, &note), &rows->held, &note))
         return false;
     CHECK(rematch_fill(rows, row, 2 * variables, 1, &given) == REMATCH_DONE && given == 1);
     uint32_t status = rematch_cursor(rows, row, 2 * variables, cursor, sizeof cursor, &length);
@@ -54,7 +54,7 @@ static bool went_on(rematch_query *query, const char *document, const rematch_op
     if (status != REMATCH_DONE)
         return false;
     size_t rest = rest_of(rows);
-    if (wants(rematch_open_after(query, TEXT(document), options, cursor, length, rows, &note), rows, &note))
+    if (wants(rematch_open_after(query, TEXT(document), options, cursor, length, rows, &note), &rows->held, &note))
         return false;
     CHECK(rest_of(rows) == rest);
     /* a document of another length, whose note takes memory */
@@ -69,9 +69,9 @@ static bool run(const char *text, const char *document, bool filter, size_t expe
     rematch_rows rows = REMATCH_NONE;
     rematch_text note;
     rematch_options options = {1000000, filter};
-    bool ended = !wants(rematch_compile(TEXT(text), &query, &note), &query, &note)
-        && !wants(rematch_share(&query, &other), &other, NULL)
-        && !wants(rematch_open(&other, TEXT(document), &options, &rows, &note), &rows, &note);
+    bool ended = !wants(rematch_compile(TEXT(text), &query, &note), &query.held, &note)
+        && !wants(rematch_share(&query, &other), &other.held, NULL)
+        && !wants(rematch_open(&other, TEXT(document), &options, &rows, &note), &rows.held, &note);
     if (rows.held) {
         long before = made;
         CHECK(rest_of(&rows) == expected && made == before); /* rows take no memory */

@@ -1,4 +1,6 @@
 """What the tests of the release share: a small repository with a program in the place of rt, and the report of what failed."""
+import gzip
+import hashlib
 import multiprocessing
 import os
 import shutil
@@ -79,7 +81,8 @@ class Tree:
             self.put('crates/%s/src/lib.rt' % name, 'code of %s\n' % name)
         self.put('crates.txt', CRATES)
         self.put('.gitignore', 'out/\n*.log\n__pycache__/\n')
-        self.copy('rematch', 'clients/shell/command', 'release/build', 'release/update', 'release/verify', 'release/released.py', 'release/libraries.py')
+        self.copy('rematch', 'clients/shell/command', 'release/build', 'release/update', 'release/verify', 'release/released.py',
+                  'release/libraries.py', 'release/statics.py')
         self.rt = self.made('with rt')
         self.script(os.path.join(self.rt, 'rt'), RT)
         self.tools = self.made('tools')
@@ -161,6 +164,14 @@ class Tree:
         program = os.path.join(self.folder, 'program')
         self.script(program, text)
         want(self.call('release/update', '--program', program)[0], 0)
+        self.commit()
+
+    def release_static(self, text):
+        """A script in the place of the released static program, committed."""
+        data = gzip.compress(text.encode(), mtime=0)
+        self.put('release/rematch-x86_64-linux-static.gz', data)
+        sums = hashlib.sha256(text.encode()).hexdigest(), hashlib.sha256(data).hexdigest()
+        self.put('release/STATIC', '# A text.\nbeside none\nobject none\nprogram %s\npacked %s\nlinker none\n' % sums)
         self.commit()
 
 

@@ -16,7 +16,7 @@ from .faults import SizeError, error_of
 __all__ = ['Compiled', 'Rows', 'compiled', 'find_library', 'numbers_view']
 
 NAME = 'librematch.so.1'
-USUAL_TABLE = 1_000_000
+USUAL_TABLE = 8_000_000
 _HERE = os.path.dirname(os.path.abspath(__file__))
 _FIRST, _LAST = 64, 1 << 16  # rows that are asked for at once, at first and at most
 _NO_ROOM = 8  # the status of an output without room
@@ -113,12 +113,13 @@ def compiled(text: bytes, filter: bool, max_table: Optional[int], is_named: bool
 
 
 class _Memory:
-    """The memory of bytes, or of a map of a file, for as long as it is needed."""
+    """The memory of bytes, or of a map of a file, for as long as it is needed: nobody resizes or closes it until then."""
 
     def __init__(self, data: Any) -> None:
         self._view = _Buffer()
         pythonapi.PyObject_GetBuffer(py_object(data), byref(self._view), 0)
         self.at: Any = self._view.buf
+        self.length: int = self._view.len
 
     def __enter__(self) -> '_Memory':
         return self
@@ -192,7 +193,7 @@ class Compiled:
                 status = self._opened(data, len(data), after, rows)
             else:
                 with _Memory(data) as memory:
-                    status = self._opened(memory.at, len(data), after, rows)
+                    status = self._opened(memory.at, memory.length, after, rows)
             self._check(status)
 
     def _opened(self, at: Any, length: int, after: str, rows: 'Rows') -> int:
