@@ -241,6 +241,20 @@ def gate(_):
     return table(['Crate', 'Proof', 'Tests', 'Edits', 'Time of edits', 'Proved again', 'Minutes of that'], rows)
 
 
+def speed(_):
+    """Four workloads of the tables `workloads` and `other_tools`, beside two tools."""
+    ours, others = measured.read('workloads'), measured.read('other_tools')
+    by = {row[0]: dict(zip(others.columns, row)) for row in others.rows}
+    rows = []
+    for row in ours.rows:
+        letter, _, what = row[0].partition(': ')
+        if letter in 'ABEF':
+            other = by[letter]
+            rows.append([what, row[1], other['rematch'], other['`pcre2`, all rows'], other['`rg`']])
+    return table(['Document', 'Rows', 'rematch', 'PCRE2, made to return all rows', 'ripgrep'], rows) + '\n\n' + wrapped(
+        '*%s* [All workloads](bench/README.md#the-program).' % ours.caption(), 120)
+
+
 def hostile(_):
     """The hard queries by families, and the worst of them."""
     found = measured.read('hostile')
@@ -258,7 +272,7 @@ def worst(rows, column, form):
 
 
 BLOCKS = {'again': again, 'drawing': drawing, 'edges': edges, 'libraries': libraries, 'counts': counts, 'believe': believe, 'figures': figures,
-          'gate': gate, 'gate_sums': gate_sums, 'hostile': hostile}
+          'gate': gate, 'gate_sums': gate_sums, 'hostile': hostile, 'speed': speed}
 
 
 # --- Pages ---------------------------------------------------------------------------------------

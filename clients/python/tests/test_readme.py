@@ -1,9 +1,11 @@
-"""The sessions of clients/README.md, run as they are printed: in a copy of examples, with the commands on the path.
+"""The sessions of clients/README.md and of docs/hours, run as they are printed: in a copy of examples, with the commands on the
+path.
 
 An indented line `$ COMMAND`, perhaps lines `> ` that go on with it, and the indented lines under them, which are what it
 writes: standard output, and then standard error. Blocks that begin with `>>>` are Python.
 """
 import doctest
+import glob
 import os
 import shutil
 import subprocess
@@ -12,12 +14,13 @@ import unittest
 from support import CLIENTS, EXAMPLES, PROGRAM, Folder
 
 README = os.path.join(CLIENTS, 'README.md')
+HOURS = sorted(glob.glob(os.path.join(os.path.dirname(CLIENTS), 'docs', 'hours', '*.md')))
 
 
-def blocks():
+def blocks(page=README):
     """The indented blocks, each with the number of its first line."""
     found, block = [], []
-    with open(README, encoding='utf-8') as lines:
+    with open(page, encoding='utf-8') as lines:
         for number, line in enumerate(lines, 1):
             if line.startswith('    '):
                 block.append(line[4:].rstrip('\n'))
@@ -53,15 +56,26 @@ class Sessions(Folder):
         self.addCleanup(os.chdir, before)
         os.chdir(self.place)
 
-    def test_shell(self):
+    def run_shell(self, page):
+        """Runs the sessions of a page, and returns how many they are."""
         asked = 0
-        for number, block in blocks():
+        for number, block in blocks(page):
             if block[0].startswith('$ '):
                 for command, wanted in shell_sessions(block):
                     run = subprocess.run(['bash', '-c', command], stdout=subprocess.PIPE, stderr=subprocess.PIPE, env=self.environment, cwd=self.place)
-                    self.assertEqual((run.stdout + run.stderr).decode(), wanted, 'README.md:%d: %s' % (number, command))
+                    place = '%s:%d: %s' % (os.path.basename(page), number, command)
+                    self.assertEqual((run.stdout + run.stderr).decode(), wanted, place)
                     asked += 1
-        self.assertGreater(asked, 10)
+        return asked
+
+    def test_shell(self):
+        self.assertGreater(self.run_shell(README), 10)
+
+    def test_hours(self):
+        self.assertEqual(len(HOURS), 3)
+        for page in HOURS:
+            with self.subTest(page=os.path.basename(page)):
+                self.assertGreater(self.run_shell(page), 10)
 
     def test_python(self):
         runner = doctest.DocTestRunner(verbose=False)
