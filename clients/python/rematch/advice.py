@@ -4,6 +4,7 @@ from __future__ import annotations
 from typing import Callable, List, NamedTuple, Optional, Sequence, Set, Union
 
 from .reader import read
+from .sets import WORD
 from .tree import (Atom, Capture, Choice, Concatenation, Formula, Group, Join, Minus, Name, One, Query, Repeat, captures_of, expressions_of, nodes_of,
                    ones_of)
 
@@ -78,6 +79,24 @@ def _plain_words(atom: Atom) -> Optional[Advice]:
         if one.text in (rb'\<', rb'\>'):
             return Advice(one.start, r'\< and \> are the plain signs: a word is made whole by [^\w] before and after its capture')
     return None
+
+
+def _round_capture(atom: Atom) -> Optional[Advice]:
+    """`!user(..)`, which is the letters `!user` and a group."""
+    for node in nodes_of(atom.formula):
+        parts = node.parts if isinstance(node, Concatenation) else ()
+        for k, part in enumerate(parts):
+            end = k + 1
+            while isinstance(part, One) and part.text == b'!' and end < len(parts) and _is_of_name(parts[end]):
+                end += 1
+            if k + 1 < end < len(parts) and isinstance(parts[end], Group):
+                name = b''.join(one.text for one in parts[k + 1:end] if isinstance(one, One)).decode()
+                return Advice(part.start, f'!{name}(..) is these letters and a group: write a capture with braces, !{name}{{..}}')
+    return None
+
+
+def _is_of_name(part: Formula) -> bool:
+    return isinstance(part, One) and part.kind == 'literal' and any(low <= part.number <= high for low, high in WORD)
 
 
 def _named_class(atom: Atom) -> Optional[Advice]:
@@ -205,6 +224,6 @@ def _anchored_arms(atom: Atom) -> Optional[Advice]:
 
 
 _RULES: Sequence[Callable[[Atom], Optional[Advice]]] = (
-    _plain_words, _named_class, _anchored_arms, _open_start, _open_end, _first_line, _edges, _line_feeds, _quotes)
+    _plain_words, _round_capture, _named_class, _anchored_arms, _open_start, _open_end, _first_line, _edges, _line_feeds, _quotes)
 _OF_ONE_ATOM = (_open_start, _open_end, _edges, _quotes)
 _OF_THE_ENDS = (_first_line, _edges)

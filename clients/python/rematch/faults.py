@@ -64,7 +64,7 @@ class QueryError(RematchError, ValueError):
     query: repeat after repeat at 7
       /"!q{.*?}"/
              ^
-    hint: there are no lazy repeats, since every match is told: drop the ? and say what stands behind, as in !q{[^"]*}"
+    hint: there are no lazy repeats, since every match is returned: drop the ? and say what comes after, as in !q{[^"]*}"
     >>> fault = rematch.QueryError('query: variable x twice', 3, b'/!x{a}!x{a}/')
     >>> fault.kind, fault.variable, fault.offset
     ('variable twice', 'x', None)

@@ -67,7 +67,7 @@ def read(text: Union[str, bytes], *, conveniences: bool = False, is_limited: boo
     rematch.faults.QueryError: query: not closed at 2
       /a(/
         ^
-    hint: what begins here is not ended before the closing slash; for the sign itself put a backslash before it
+    hint: what begins here is not closed before the closing slash; for the character itself write a backslash before it
     """
     source = text if isinstance(text, bytes) else text.encode('utf-8', 'surrogateescape')
     if len(source) > LONGEST_QUERY and is_limited and not conveniences:

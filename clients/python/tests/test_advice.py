@@ -14,7 +14,7 @@ class Advice(unittest.TestCase):
 
     def test_each(self):
         for query, offset, part in (
-                (r'/[^\w]ab[^\w]/', 0, 'no capture'), (r'/\<!x{a}b\>/', 1, 'plain signs'), ('/!x{[:digit:]}/', 4, 'set of these letters'),
+                (r'/[^\w]ab[^\w]/', 0, 'no capture'), (r'/\<!x{a}b\>/', 1, 'plain signs'), (r'/a!user(\w+) b/', 2, '!user{..}'), ('/!x{[:digit:]}/', 4, 'set of these letters'),
                 (r'/!x{\w+} /', 4, 'is first in the formula'), (r'/ !x{\w+}/', 5, 'is last in the formula'), (r'/ (!x{(a|b*)})/', 9, 'is last in the formula'),
                 (r'/\n!x{a}/', 1, 'first line'), (r'/[^\w]!x{a}/', 1, 'very start or end'), (r'/!x{a}[^\w]/', 6, 'very start or end'),
                 (r'/ !x{[^ ]+} /', 5, 'line feed'),

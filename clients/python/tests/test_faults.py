@@ -11,22 +11,24 @@ from support import DOCS, PROGRAM, Folder, knows
 
 # What beginners write and the program refuses, and a part of the hint.
 BEGINNERS = [
-    (r'/a*?b/', 'lazy'), (r'/a+?/', 'lazy'), (r'/a++/', 'group'), (r'/a{2}{3}/', 'group'), (r'/\bthe\b/', 'word boundary'), (r'/\Ba/', r'\w'),
+    (r'/a*?b/', 'lazy'), (r'/a+?/', 'lazy'), (r'/a++/', 'group'), (r'/a{2}{3}/', 'group'), (r'/\bthe\b/', r'reads \b'), (r'/\Ba/', r'\w'),
     (r'/\D/', r'[^\d]'), (r'/\W+/', r'[^\w]'), (r'/\S+/', r'[^\s]'), (r'/\Aab/', '^'), (r'/ab\Z/', '$'), (r'/ab\z/', '$'),
-    (r'/\p{L}/', 'sign u'), (r'/\P{L}/u', r'[^\p{..}]'), (r'/\u{e9}/', 'sign u'), (r'/\x9/', 'two digits'), (r'/\f/', r'\x0c'),
+    (r'/\p{L}/', 'flag u'), (r'/\P{L}/u', r'[^\p{..}]'), (r'/\u{e9}/', 'flag u'), (r'/\x9/', 'two digits'), (r'/\f/', r'\x0c'),
     (r'/\v/', r'\x0b'), (r'/\0/', r'\x00'), (r'/(a)\1/', 'back-references'), (r'/\k<x>/', 'back-references'), ('/a{,3}/', '{0,k}'),
-    ('/!1st{a}/', 'begins with a letter'), ('/x{a}/', '!name{..}'), ('/!x {a}/', 'without a space'), ('/a{3,2}/', 'fall'), ('/a{5000}/', '1,000'),
+    ('/!1st{a}/', 'begins with a letter'), ('/x{a}/', '!name{..}'), ('/!x {a}/', 'without a space'), ('/a{3,2}/', 'ascending'), ('/a{5000}/', '1,000'),
     ('/(?:a)/', '(..)'), ('/(?=a)/', 'look-around'), ('/(?<!a)b/', 'look-around'), ('/(?P<x>a)/', '!name{..}'), ('/(?<x>a)/', '!name{..}'),
     ('/(?i)a/', '[Ff]'), ('/*a/', 'nothing before it'), ('/a/i', '[Aa]'), ('/a/gi', '[Aa]'), ('/usr/bin/', r'\/'), ('/[[:alpha:]]/', r'\['),
-    ('/[é]/', 'u behind'), ('/a/ AND /b/', 'union, join'), ('/a/ or /b/', 'union, join'), ('/a/ | /b/', 'union'), ('a', 'between slashes'),
-    ('"a"', 'between slashes'), ('^a$', 'between slashes'), (r'/\p{Greek}/u', 'range'), ('/a$|b/', '$/ union'), ('/a$b/', 'straight before'), ('/(^|,)!x{a}/', '/^!x{..}/ union'), ('/!x{a}(,|$)/', '$/ union'), ('/(,|^)a/', '/^!x{..}/ union'), ('/!x{^a}/', 'before the capture'), ('/!x{a$}/', 'behind the capture'), (r'/a\n^b/', 'straight behind'),
-    ('/a', 'closing slash'), ('/a[/]/', r'\/'), ('/(a/', 'not ended'), ('/!x{a/', 'not ended'), ('/(!x{a})*/', 'row of its own'),
+    ('/[é]/', 'add u after'), ('/a/ AND /b/', 'and is join'), ('/a/ or /b/', 'or is union'), ('/a/ not /b/', 'not is minus'), ('/a/ Join /b/', 'small letters'), ('/a/ | /b/', 'union'), ('a', 'between slashes'),
+    ('"a"', 'between slashes'), ('^a$', 'between slashes'), (r'/\p{Greek}/u', 'range'), ('/a$|b/', '$/ union'), ('/a$b/', 'straight before'), ('/(^|,)!x{a}/', '/^!x{..}/ union'), ('/!x{a}(,|$)/', '$/ union'), ('/(,|^)a/', '/^!x{..}/ union'), ('/!x{^a}/', 'before the capture'), ('/!x{a$}/', 'after the capture'), (r'/a\n^b/', 'straight after'),
+    ('/a', 'closing slash'), ('/a[/]/', r'\/'), ('/(a/', 'not closed'), ('/!x{a/', 'not closed'), ('/(!x{a})*/', 'row of its own'),
     ('/!x{a}!x{b}/', 'rename'), ('/!x{a}|b/ join /!x{.}/', 'every way'), ('project y (/!x{a}/)', 'no such variable'), ('/[z-a]/', 'lower'),
-    (r'/[\w-z]/', 'last in the class'), ('/a/;', 'ends a let'), ('let w = /a/;', 'too early'), ('/a/ /b/', 'union, join'), ('/a]/', r'\]'),
-    ('/[]/', 'not empty'), ('/!none{a}/', 'another name'), ('union /a/', 'cannot stand here'), ('', 'too early'),
-    ('/y(/', 'not ended'), ('/y[/', 'not ended'), ('/x/g', 'drop it'), ('# comment\n/a/', 'no comments'), ('/!x{a}/ where x > 5', 'tests alone'),
-    ('/!x{a}/ where len(x) > 5', 'tests alone'), ('/!x{a}/ where luhn(x) and x > 5', 'commas'), ('/!x{a}/ where', 'tests alone'), ('/a/ OR /b/', 'minus'),
-    ('part ip = /a/; /%{ip}/', 'written out by rematch-to'), ('/from where (?:a)/', '(..)')]
+    (r'/[\w-z]/', 'last in the class'), ('/a/;', 'let ends with'), ('let w = /a/;', 'too early'), ('/a/ /b/', 'union, join'), ('/a]/', r'\]'),
+    ('/[]/', 'never empty'), ('/!none{a}/', 'another name'), ('union /a/', 'a query is let'), ('', 'too early'),
+    ('/y(/', 'not closed'), ('/y[/', 'not closed'), ('/x/g', 'drop it'), ('# comment\n/a/', 'no comments'), ('/!x{a}/ where x > 5', 'only tests'),
+    ('/!x{a}/ where len(x) > 5', 'only tests'), ('/!x{a}/ where luhn(x) and x > 5', 'commas'), ('/!x{a}/ where', 'only tests'), ('/a/ OR /b/', 'union'),
+    ('part ip = /a/; /%{ip}/', 'rematch-to and rematch-piece read parts'), ('/from where (?:a)/', '(..)'),
+    ('\ufeff/!x{a}/', 'byte order mark'), (r'/a\R/', r'(\r?\n)'), ('/!größe{a}/', 'letters of ASCII'), ('[pos="JJ"]', 'between slashes'),
+    (r'/$user{\w+}/', 'as !name{..}'), (r'/!{\w+}/', 'a capture has a name'), ('/^a/m', 'reads m'), ('/a%{ip}/', 'read parts'), ('/[a-z]/ & /b/', 'and is join')]
 
 
 class Places(unittest.TestCase):
@@ -76,7 +78,7 @@ class Places(unittest.TestCase):
             self.assertIn(note, str(fault))
 
     def test_size(self):
-        with self.assertRaisesRegex(rematch.SizeError, '20000 states\nhint: repeat less'):
+        with self.assertRaisesRegex(rematch.SizeError, '20000 states\nhint: each copy'):
             rematch.Query('/!x{(a{1000}){20}}/').count(b'')
         self.assertEqual(rematch.Query('/!x{(a{1000}){20}}/').variables, ('x',))
 
