@@ -75,8 +75,9 @@ class Asked(Served):
 
     def test_bad_questions(self):
         http = self.begin()
-        for data in (b'', b'{', b'[]', b'{}', b'\xff', b'{"query":1,"first":0}', b'{"query":"","first":"0"}', b'{"query":"","first":0,"known":null}', b'{"query":"","first":0,"document":1}'):
-            self.assertEqual(self.post(http, data), (400, 'a question is an object with query and first, and perhaps document and known\n'), data)
+        for data in (b'', b'{', b'[]', b'{}', b'\xff', b'{"query":1,"first":0}', b'{"query":"","first":"0"}', b'{"query":"","first":0,"known":null}', b'{"query":"","first":0,"document":1}',
+                     b'{"query":"","first":0,"why":1}'):
+            self.assertEqual(self.post(http, data), (400, 'a question is an object with query and first, and perhaps document, known and why\n'), data)
         self.assertEqual(self.post(http, {'query': '/!x{a}/', 'first': 0, 'document': 'a'})[1]['found'], 1)
         with self.assertRaises(OSError):  # refused before it is read
             status, told = self.post(http, b'a', Content_Length='999999999')
@@ -97,6 +98,16 @@ class Asked(Served):
         self.assertIn('more than 20000 states', self.post(http, {'query': '/(a{1000}){20}/', 'first': 0, 'known': 1})[1]['fault'])
         self.assertIn('UTF-8', self.post(http, {'query': '/a/', 'first': 0, 'document': '\ud800'})[1]['fault'])
         self.assertEqual(self.post(http, {'query': '/a/', 'first': 0, 'document': 'a'})[1]['rows'], 1)
+
+    def test_why(self):
+        """How far a query fits the document that was given last."""
+        http = self.begin('', 'for ada from\nfor o.meyer from\n')
+        told = self.post(http, {'query': r'/for !user{\w+} from/i', 'first': 0, 'why': True})[1]['why'].splitlines()
+        self.assertEqual((len(told), told[0].split()[0], told[2].split()[0], told[-1]), (4, '2', '1', '          1  rows'))
+        self.assertIn("the first in line 2: 'for ada from\\nfor o'>>>'.meyer from\\n'", told[2])
+        self.assertIn('repeat after repeat', self.post(http, {'query': '/a**/', 'first': 0, 'why': True})[1]['why'])
+        http.player.seconds = -1.0
+        self.assertIn('it takes more than', self.post(http, {'query': '/ab/', 'first': 0, 'why': True})[1]['why'])
 
     def test_screens(self):
         http = self.begin('', 'a' * 250)

@@ -4,6 +4,7 @@ from __future__ import annotations
 import os
 import sys
 from contextlib import contextmanager
+from importlib import import_module
 from itertools import chain, islice
 from typing import Any, Callable, Dict, Iterable, Iterator, List, Optional, TextIO, Tuple
 
@@ -21,12 +22,12 @@ from .packed import Given
 from .progress import Progress
 from .forms import DOCUMENT_FORMS, Form, refuse
 from .jobs import Part, done_in_order, parts_of_documents, read_aside, written_aside
-from .words import Words, read_words
+from .words import OTHER_FORMS, Words, read_words
 
 __all__ = ['Command', 'main']
 
 _MANY = 3  # documents, of which small ones are asked of one program
-_WHOLE = ('bed', 'gff', 'fasta', 'ann', 'follow', 'check')  # the forms that search otherwise
+_WHOLE = ('bed', 'gff', 'fasta', 'ann', 'follow', 'check', 'why')  # the forms that search otherwise
 _HEAD = 1 << 20  # bytes of a document that are looked at for what may hide rows
 
 
@@ -282,11 +283,46 @@ class Command:
         for advice in self.advice():
             self.out.write(f'advice at {advice.offset}: {advice.message}\n')
         self.query.any(b'')  # which raises where an automaton is too large, as each document would
+        self.check_examples()
+        self.check_documents()
+
+    def check_examples(self) -> None:
+        """Runs the examples of the query file."""
+        from .examples import BadExample, examples_of, faults_of
+        try:
+            examples = list(examples_of(self.expansion.source))
+        except BadExample as fault:
+            self.out.write(f'example in line {fault.line}: {fault}\n')
+            self.status = 2
+            return
+        wrong = list(faults_of(self.query, examples))
+        for line, told in wrong:
+            self.out.write(f'example in line {line}: {told}\n')
+        if examples:
+            self.out.write(f'examples {len(examples)}, of which {len(wrong)} fail\n')
+        self.status = int(bool(wrong))
+
+    def check_documents(self) -> None:
+        """Where the query has no row on a document, says how far it fits."""
+        for name in self.given.documents:
+            with self.guarded(name):
+                found = self.opened(Part(name))
+                if found.document is not None and not self.query.any(found.document):
+                    from .why import told_why
+                    self.out.writelines(f'{line}\n' for line in (f'no row on {name}', *told_why(self.query, found.data[:])))
+
+    def why(self) -> None:
+        from .why import told_why
+        for name in self.names:
+            with self.guarded(name):
+                data = self.opened(Part(name)).whole().data[:]
+                self.out.write(f'{name}\n' if len(self.names) > 1 else '')
+                self.out.writelines(line + '\n' for line in told_why(self.query, data))
 
     def run(self) -> None:
         """Writes all that is asked for; a fault has the name of its document."""
         others: Dict[str, Callable[[], None]] = {'any': self.any, 'ann': self.ann, 'html': self.html, 'follow': self.follow,
-                                                 'check': self.check}
+                                                 'check': self.check, 'why': self.why}
         try:
             if self.given.form in others:
                 others[self.given.form]()
@@ -302,9 +338,9 @@ def main(words: Optional[Iterable[str]] = None) -> int:
     """Runs the command; the status is that of the program for its faults, 2 for words that are refused, and 1 where one of several
     documents could not be read."""
     asked = list(sys.argv[1:] if words is None else words)
-    if asked[:1] == ['sql']:
-        from .sql import main as sql
-        return sql(asked[1:])
+    if asked[:1] and asked[0] in OTHER_FORMS:
+        other: Callable[[List[str]], int] = import_module('.' + asked[0], __package__).main
+        return other(asked[1:])
     given = read_words(asked)
     if given.form == 'ann' and len(given.documents) > 1 and not (given.out and os.path.isdir(given.out)):
         refuse('ann of several documents needs -o FOLDER')

@@ -16,6 +16,7 @@ from typing import Any, Dict, List, Optional, Tuple
 from ..documents import Document
 from ..faults import DocumentError, ProgramError, QueryError, RematchError
 from ..match import Row
+from ..query import Query
 from ..session import Server, Session, SessionError
 from ..view import section
 from .command import run_told
@@ -77,6 +78,15 @@ class Player:
             return {**self._answer(query, first), 'known': self.number}
         finally:
             self._turn.release()
+
+    def why(self, query: str) -> Dict[str, Any]:
+        """How far the query fits the document that was given last, as lines; or the fault."""
+        from .why import told_why
+        try:
+            made = Query(expanded(query.encode('utf-8', 'surrogatepass')).text)
+            return {'why': '\n'.join(told_why(made, self.document.encode('utf-8', 'surrogatepass'), self.seconds))}
+        except RematchError as fault:
+            return {'why': str(fault)}
 
     def _end_question(self) -> None:
         self._is_ended = True
@@ -195,12 +205,14 @@ class _Handler(BaseHTTPRequestHandler):
         try:
             asked = json.loads(self.rfile.read(int(length)))
             query, document, first, known = asked['query'], asked.get('document'), asked['first'], asked.get('known', 0)
-            if not (isinstance(query, str) and isinstance(document, (str, type(None))) and type(first) is type(known) is int):
+            is_why = asked.get('why', False)
+            if not (isinstance(query, str) and isinstance(document, (str, type(None))) and type(first) is type(known) is int and type(is_why) is bool):
                 raise ValueError
         except (ValueError, KeyError, TypeError, AttributeError):
-            self._refuse(400, 'a question is an object with query and first, and perhaps document and known')
+            self._refuse(400, 'a question is an object with query and first, and perhaps document, known and why')
             return
-        reply = self.server.player.ask(query, document, first, known)
+        player = self.server.player
+        reply = player.why(query) if is_why else player.ask(query, document, first, known)
         self._send(200, 'application/json', json.dumps(reply).encode())
 
 

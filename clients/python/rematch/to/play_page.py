@@ -19,6 +19,8 @@ textarea{box-sizing:border-box;width:100%;height:9em;font:15px/1.4 ui-monospace,
 #fault:not(:has(:not(:empty))),#there[hidden]{display:none}
 .pl-bar{display:flex;flex-wrap:wrap;gap:.5em;align-items:center;padding:.5em 0;font-size:14px}
 .pl-bar button,#there{font:inherit;padding:.2em .6em}
+#told{overflow-x:auto;font:14px/1.4 ui-monospace,"DejaVu Sans Mono",monospace;margin:0}
+#told:empty{display:none}
 #rows[aria-busy=true]{opacity:.6}
 @media (max-width:700px){.pl-in{grid-template-columns:1fr}textarea{height:6em}}
 '''
@@ -36,7 +38,10 @@ hint.textContent=k<0?'':told.slice(k+1);there.hidden=!told||got.at==null;if(got.
 first=got.first;rows.innerHTML=got.html;
 say.textContent=got.rows?'rows '+(first+1)+' to '+(first+got.rows)+(got.all?' of '+got.found:', and more'):'no rows';
 $('back').disabled=!first;$('begin').disabled=!first;$('on').disabled=!got.more};
-const soon=()=>{clearTimeout(late);late=setTimeout(()=>ask(0),200)};
+$('why').addEventListener('click',async()=>{await ask(first);const told=$('told');told.textContent='..';
+try{const r=await fetch('',{method:'POST',headers:{'Content-Type':'application/json'},body:JSON.stringify({query:query.value,first:0,why:true})});
+told.textContent=r.ok?(await r.json()).why:await r.text()}catch(e){told.textContent='rematch-play has ended: begin it anew'}});
+const soon=()=>{$('told').textContent='';clearTimeout(late);late=setTimeout(()=>ask(0),200)};
 query.addEventListener('input',soon);text.addEventListener('input',soon);
 const turn=async to=>{await ask(to);rows.scrollIntoView({block:'nearest'});rows.querySelector('li[data-r]')?.focus({preventScroll:true})};
 $('on').addEventListener('click',()=>turn(first+100));$('back').addEventListener('click',()=>turn(Math.max(0,first-100)));
@@ -71,7 +76,9 @@ def page(query: str, document: str, name: str, nonce: str) -> str:
 </div>
 <div id="fault" role="alert"><pre></pre><p></p></div><button id="there" hidden>Go to the place</button>
 <div class="pl-bar"><button id="begin" disabled>First</button><button id="back" disabled>Previous</button><button id="on" disabled>Next</button>
+<button id="why">How far it fits</button>
 <output id="say" aria-live="polite"></output></div>
+<pre id="told" aria-live="polite"></pre>
 <div id="rows" class="rm" role="region" aria-label="rows over their document"></div>
 </main><script nonce="{nonce}">{ROWS_SCRIPT}{_SCRIPT}</script></body></html>
 '''

@@ -5,7 +5,7 @@ import argparse
 import sys
 from typing import Any, Dict, List, NamedTuple, NoReturn, Optional, Sequence, Tuple
 
-__all__ = ['FORMS', 'OTHER_FORMS', 'SQL_EXAMPLES', 'Words', 'hint_of_program_words', 'hint_of_words', 'read_words']
+__all__ = ['FORMS', 'OTHER_FORMS', 'DIFF_EXAMPLES', 'SQL_EXAMPLES', 'Words', 'hint_of_program_words', 'hint_of_words', 'read_words']
 
 
 class Form(NamedTuple):
@@ -56,6 +56,10 @@ FORMS: Dict[str, Form] = {
                    'each row is complete. '
                    'A file that was cut or replaced is read from its start. It ends by Ctrl-C, or after --idle seconds without '
                    'news.'),
+    'why': Form('how far each formula of the query fits a document, and where it stops',
+                "rematch-to why -q failed.query auth.log\n\n"
+                'For each step of a formula there is a line: at how many places all up to it fits, and the first place where it stops. '
+                'A formula of more than 20 steps has them together.'),
     'check': Form('what the query is, and advice on it', "rematch-to check -q failed.query\n"
                   "rematch-to check --expanded -e '/error/i'\n\n"
                   'It takes the words of the program rematch too, and says what is wrong with them.'),
@@ -68,7 +72,14 @@ rematch-to sql 'select f.*, team from failed f join staff using (user)' -q faile
 
 The table of a query has the columns document and line, and of each variable x the columns x (its text), x_start and x_end (in bytes).
 With one query the table is called rows too. time(TEXT, FORMAT) is a time in seconds, by a format as '%b %d %H:%M:%S'."""
-OTHER_FORMS: Dict[str, Form] = {'sql': Form('what a statement of SQL gives over the rows of queries', SQL_EXAMPLES)}
+DIFF_EXAMPLES = """\
+rematch-to diff old.query new.query auth.log*
+
+The table is that of csv, with lost or gained before each row. Rows are compared by the variables that both queries have."""
+OTHER_FORMS: Dict[str, Form] = {
+    'sql': Form('what a statement of SQL gives over the rows of queries', SQL_EXAMPLES),
+    'diff': Form('the rows that a change of a query loses and gains', DIFF_EXAMPLES),
+}
 """Forms that have words of their own."""
 
 _TABLES, _PLACES = ('csv', 'tsv', 'follow'), ('bed', 'gff', 'fasta')
