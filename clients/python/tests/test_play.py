@@ -104,7 +104,7 @@ class Asked(Served):
         http = self.begin('', 'for ada from\nfor o.meyer from\n')
         told = self.post(http, {'query': r'/for !user{\w+} from/i', 'first': 0, 'why': True})[1]['why'].splitlines()
         self.assertEqual((len(told), told[0].split()[0], told[2].split()[0], told[-1]), (4, '2', '1', '          1  rows'))
-        self.assertIn("the first in line 2: 'for ada from\\nfor o'>>>'.meyer from\\n'", told[2])
+        self.assertIn("the first in line 2: 'for o'>>>'.meyer from\\n'", told[2])
         self.assertIn('repeat after repeat', self.post(http, {'query': '/a**/', 'first': 0, 'why': True})[1]['why'])
         http.player.seconds = -1.0
         self.assertIn('it takes more than', self.post(http, {'query': '/ab/', 'first': 0, 'why': True})[1]['why'])

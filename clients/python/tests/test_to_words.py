@@ -85,7 +85,7 @@ class Wrong(Folder):
 
     def test_check_takes_the_words_of_the_program(self):
         plain = asked('check', '-e', '/!x{a}/')
-        self.assertEqual(asked('check', '-f', 'json', '-n', '2', '-t', '-e', '/!x{a}/', 'd'), plain)
+        self.assertEqual(asked('check', '-f', 'json', '-n', '2', '-t', '-e', '/!x{a}/', self.file('d', 'a')), plain)
         self.assertEqual(asked('check', '-n2', '--trial=7', '-e', '/!x{a}/')[0], 2)
         self.assertEqual(asked('check', '-e', '/a/', 'one', 'two')[::2],
                          (2, 'rematch-to: a run takes one document: rematch-to csv takes several\n'))

@@ -51,7 +51,7 @@ class _Piece(NamedTuple):
 
     shown: bytes
     text: bytes
-    is_plain: bool  # one byte or character by itself
+    is_plain: bool  # one letter by itself, or both cases of one
     parts: Tuple[bytes, ...] = ()  # of pieces together, the text of each
 
 
@@ -70,6 +70,14 @@ def _without_captures(text: bytes, formula: Formula) -> bytes:
     return b''.join(pieces) + text[at:end]
 
 
+def _is_letter(one: One) -> bool:
+    """Whether it fits one letter, or both cases of one."""
+    if one.kind != 'class' or one.is_negated:
+        return one.kind in ('literal', 'escape')
+    letters = [chr(item.low) for item in one.items if item.low == item.high >= 0]
+    return len(letters) == len(one.items) == 2 and letters[0].lower() == letters[1].lower()
+
+
 def _place(formula: Formula) -> Tuple[int, int]:
     return formula.start, formula.end
 
@@ -84,7 +92,7 @@ def _pieces(text: bytes, formula: Formula) -> Iterator[_Piece]:
     else:
         start, end = _place(formula)
         without = _without_captures(text, formula)
-        yield _Piece(text[start:end], without, isinstance(formula, One) and formula.kind in ('literal', 'escape'))
+        yield _Piece(text[start:end], without, isinstance(formula, One) and _is_letter(formula))
 
 
 def _within(text: bytes, formula: Any) -> Iterator[_Piece]:
@@ -156,7 +164,8 @@ class _Search:
         except (SizeError, OutOfMemory):
             return None
         line = self.data.count(b'\n', 0, start) + 1
-        return Stop(places, line, shown_text(self.data[max(0, end - _BEFORE):end]), shown_text(self.data[end:end + _BEHIND]))
+        first = max(self.data.rfind(b'\n', 0, start) + 1, end - _BEFORE)
+        return Stop(places, line, shown_text(self.data[first:end]), shown_text(self.data[end:end + _BEHIND]))
 
 
     def stop_within(self, parts: Tuple[bytes, ...]) -> Optional[Stop]:
@@ -225,7 +234,7 @@ def reasons(text: bytes, data: bytes, latest: Optional[float] = None) -> Iterato
     ...         print(step)
     Step(text='for ', places=2, stop=None)
     Step(text='!user{\\w+}', places=2, stop=None)
-    Step(text=' from', places=1, stop=Stop(places=1, line=2, before='for ada from\nfor o', behind='.meyer from\n'))
+    Step(text=' from', places=1, stop=Stop(places=1, line=2, before='for o', behind='.meyer from\n'))
     """
     tree = read(text)
     seen = set()
