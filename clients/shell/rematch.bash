@@ -39,7 +39,7 @@ _rematch() {
 }
 
 _rematch_to_options=$(printf '%s ' \
-    -e -q -o --quiet --filter --max-table --jobs -n --var --columns --texts --context --characters --sort --sample \
+    -e -q --words -o --quiet --filter --max-table --jobs -n --var --columns --texts --context --characters --sort --sample \
     --sentence --color -C -v --line-numbers --lines --forward --iupac --sorted --strand-once --frames --most-rows --expanded \
     --from-start --idle --version --help)
 
@@ -48,7 +48,7 @@ _rematch_to() {
     COMPREPLY=()
     case $before in
         -q) _rematch_files -X '!*.query'; return ;;
-        -o) _rematch_files; return ;;
+        -o|--words) _rematch_files; return ;;
         --sort) _rematch_words 'left right word'; return ;;
         --color) _rematch_words 'auto always never'; return ;;
         -e|--max-table|--jobs|-n|--var|--columns|--context|--sample|-C|--most-rows|--idle) return ;;

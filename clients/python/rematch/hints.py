@@ -141,7 +141,7 @@ HINTS: Tuple[Hint, ...] = (
     Hint('query: more than 32 variables', '', 'a name that occurs in several atoms counts once: use fewer names'),
     Hint('query: longer than 65536 bytes', '', 'shorten the query, or ask several and put their rows together'),
     Hint('size: more than 20000 states', '/(a{1000}){20}/', 'each copy of a repeated part counts, and each letter of each alternative: repeat less, write common beginnings '
-          'once, as ab(ate|bey), or ask several queries; for the first one after, within a distance, write (pair minus between) join near'),
+          'once, as ab(ate|bey), or ask several queries (rematch-to does for a list, by --words FILE); for the first one after, within a distance, write (pair minus between) join near'),
     Hint('size: more than 2000000 ways', '/((a?){1000}){3}/', 'use fewer alternatives that may follow each other, or fewer captures of the empty '
           'part beside each other that may be left out'),
     Hint('size: filter past W', '', 'leave filter out, or raise W by max_table'),

@@ -33,6 +33,8 @@ _HEAD = 1 << 20  # bytes of a document that are looked at for what may hide rows
 
 def read_source(given: Words) -> bytes:
     """The text of the query, as it is given."""
+    if given.list is not None:
+        return b'/[^\\w]!word{..}[^\\w]/'  # of which nothing is told
     if given.text is not None:
         return given.text.encode('utf-8', 'surrogateescape')
     if given.name == '-':
@@ -62,6 +64,10 @@ class Command:
 
     def read_query(self) -> Query:
         words = {'filter': bool(self.given.filter), 'max_table': self.given.max_table}
+        if self.given.list is not None:
+            from .wordlist import ListQuery, words_of
+            with open(self.given.list, 'rb') as file:
+                return ListQuery(words_of(file.read(), self.given.list), **words)
         text = self.read_text()
         make = Query
         if len(self.names) >= _MANY and not self.given.filter and self.given.max_table is None and self.given.form not in _WHOLE:
@@ -104,7 +110,7 @@ class Command:
             print(line, file=sys.stderr)
 
     def tell_advice(self) -> None:
-        if self.given.form == 'check':
+        if self.given.form == 'check' or self.given.list is not None:
             return
         is_told = self.given.form == 'count' and not self.query.variables
         if is_told:

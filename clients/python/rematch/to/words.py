@@ -85,6 +85,7 @@ OTHER_FORMS: Dict[str, Form] = {
 _TABLES, _PLACES = ('csv', 'tsv', 'follow'), ('bed', 'gff', 'fasta')
 _JOBS = ('csv', 'tsv', 'kwic', 'lines', 'count', 'freq', *_PLACES)
 _FIRST = ('csv', 'tsv', 'kwic', 'lines', 'freq')
+_LISTS = (*_FIRST, 'count', 'any', 'html')
 
 
 class _Option(NamedTuple):
@@ -98,6 +99,7 @@ def _option(name: str, forms: Sequence[str], **words: Any) -> _Option:
 
 
 _OPTIONS = (
+    _option('--words', _LISTS, dest='list', metavar='FILE', help='the words of this file, one on each line, in place of a query; the variable is word'),
     _option('-o', (), dest='out', metavar='NAME', help='write there; for ann of several documents a folder'),
     _option('--quiet', (), action='store_true', help='no advice on the query and none on the documents'),
     _option('--filter', (), action='store_true', help='read only where the query touches a document'),
@@ -217,12 +219,14 @@ def read_words(words: Sequence[str]) -> Words:
         parser.error(f'there is no form {given.form!r}: the forms are {", ".join([*FORMS, *OTHER_FORMS])}')
     if given.text is not None and given.name is not None:
         parser.error('the query is given by -e or by -q, and not by both')
-    if given.text is None and given.name is None:
+    if given.text is None and given.name is None and given.list is None:
         parser.error('there is no query: -e TEXT or -q NAME gives it')
     for option in _OPTIONS:
         value = getattr(given, option.words.get('dest', option.name.strip('-').replace('-', '_')))
         if option.forms and given.form not in option.forms and value not in (None, False):
             parser.error(f'{option.name} is of {", ".join(option.forms)}, and not of {given.form}')
+    if given.list is not None and (given.text is not None or given.name is not None):
+        parser.error('the query is given by --words or by -e or -q, and not by both')
     _refuse_numbers(parser, given)
     return given
 
