@@ -46,15 +46,14 @@ $bin/rematch-cut
 $bin/rematch-piece
 $bin/rematch-play
 $bin/rematch-serve
-$share/man/man1/rematch.1
 $bash_file
-$share/bash-completion/completions/rematch-to
-$share/bash-completion/completions/rematch-cut
-$share/bash-completion/completions/rematch-piece
-$share/zsh/site-functions/_rematch
-$share/fish/vendor_completions.d/rematch.fish
-$share/fish/vendor_completions.d/rematch-to.fish
-$share/fish/vendor_completions.d/rematch-piece.fish"
+$share/zsh/site-functions/_rematch"
+for name in rematch rematch-to rematch-cut rematch-piece rematch-play rematch-serve; do
+    files="$files
+$share/man/man1/$name.1
+$share/bash-completion/completions/$name
+$share/fish/vendor_completions.d/$name.fish"
+done
 
 if [ "$action" = uninstall ]; then
     printf '%s\n' "$files" | while IFS= read -r file; do
@@ -71,26 +70,39 @@ if [ "$action" = uninstall ]; then
     exit 0
 fi
 
+# Unpacks a released program into a folder of this run, as the text beside it names it.
+unpack() {
+    program=$made/rematch
+    gzip -dc "$1" >"$program" || true
+    if [ "$(sha256sum <"$program")" != "$(sed -n 's/^program //p' "$root/release/$2")  -" ]; then
+        echo "install.sh: the release is damaged: $1 is not the program that $2 beside it names" >&2
+        exit 1
+    fi
+    chmod 755 "$program"
+}
+
+runs() {
+    "$1" -e '/!it{is here}/' --explain </dev/null >/dev/null 2>&1
+}
+
 made=$(mktemp -d)
 packed=$root/release/rematch-x86_64-linux.gz
+static=$root/release/rematch-x86_64-linux-static.gz
 if [ -z "$program" ]; then
     program=$root/crates/rematch/out/rematch
     if [ -r "$packed" ] && { [ ! -x "$program" ] || [ "$packed" -nt "$program" ]; }; then
-        program=$made/rematch
-        gzip -dc "$packed" >"$program" || true
-        if [ "$(sha256sum <"$program")" != "$(sed -n 's/^program //p' "$root/release/SOURCES")  -" ]; then
-            echo "install.sh: the release is damaged: $packed is not the program that SOURCES beside it names" >&2
-            exit 1
-        fi
-        chmod 755 "$program"
+        unpack "$packed" SOURCES
+        runs "$program" || [ ! -r "$static" ] || unpack "$static" STATIC
     fi
 fi
 if [ ! -x "$program" ] || [ ! -f "$program" ]; then
     echo "install.sh: there is no built program $program; ./rematch in the checkout builds it" >&2
     exit 1
 fi
-if ! "$program" -e '/!it{is here}/' --explain </dev/null >/dev/null 2>&1; then
-    echo "install.sh: $program does not run here: the released program needs Linux on x86_64 with glibc 2.34 or later" >&2
+if ! runs "$program"; then
+    libc=' with glibc 2.34 or later'
+    [ ! -r "$static" ] || libc=
+    echo "install.sh: $program does not run here: the released program needs Linux on x86_64$libc, and here is $(uname -s) on $(uname -m)" >&2
     exit 1
 fi
 
@@ -113,14 +125,8 @@ put "$program" "$core/rematch" 755 "the program"
 put "$here/command" "$bin/rematch" 755 "the command that runs it"
 put "$root/man/rematch.1" "$share/man/man1/rematch.1" 644 "the page of the manual"
 put "$here/rematch.bash" "$bash_file" 644 "completion for bash"
-for name in rematch-to rematch-cut rematch-piece; do
-    link rematch "$share/bash-completion/completions/$name" "the same"
-done
 put "$here/_rematch" "$share/zsh/site-functions/_rematch" 644 "completion for zsh"
 put "$here/rematch.fish" "$share/fish/vendor_completions.d/rematch.fish" 644 "completion for fish"
-for name in rematch-to rematch-piece; do
-    link rematch.fish "$share/fish/vendor_completions.d/$name.fish" "the same"
-done
 
 if command -v python3 >/dev/null 2>&1 && python3 -I -c 'import sys, zipapp; sys.exit(sys.version_info < (3, 8))' 2>/dev/null; then
     mkdir "$made/app" "$made/app/rematch" "$made/app/rematch/to"
@@ -134,6 +140,11 @@ if command -v python3 >/dev/null 2>&1 && python3 -I -c 'import sys, zipapp; sys.
     link rematch-to "$bin/rematch-piece" "the rows of a piece"
     link rematch-to "$bin/rematch-play" "a page to write queries beside a document"
     link rematch-to "$bin/rematch-serve" "sessions that tell back what is wrong with a request"
+    for name in rematch-to rematch-cut rematch-piece rematch-play rematch-serve; do
+        put "$root/man/$name.1" "$share/man/man1/$name.1" 644 "its page of the manual"
+        link rematch "$share/bash-completion/completions/$name" "its completion for bash"
+        link rematch.fish "$share/fish/vendor_completions.d/$name.fish" "its completion for fish"
+    done
 else
     echo "no Python 3.8: rematch-to, rematch-cut, rematch-piece, rematch-play and rematch-serve are left out"
 fi

@@ -1,4 +1,4 @@
-# Completion of rematch, rematch-to, rematch-cut and rematch-piece in bash: options that are still open, forms, query
+# Completion of rematch and of the commands beside it in bash: options that are still open, forms, query
 # files and documents.
 
 _rematch_files() {
@@ -74,7 +74,28 @@ _rematch_cut() {
     [[ $COMP_CWORD != 1 ]] || _rematch_files
 }
 
+_rematch_play() {
+    local word=${COMP_WORDS[COMP_CWORD]} before=${COMP_WORDS[COMP_CWORD-1]}
+    COMPREPLY=()
+    case $before in
+        -q) _rematch_files -X '!*.query'; return ;;
+        -e|--port) return ;;
+    esac
+    case $word in
+        -*) _rematch_open '-e -q --port --open --help' ;;
+        *) _rematch_files ;;
+    esac
+}
+
+_rematch_serve() {
+    local word=${COMP_WORDS[COMP_CWORD]} before=${COMP_WORDS[COMP_CWORD-1]}
+    COMPREPLY=()
+    [[ $before == --seconds ]] || _rematch_open '--seconds --version --help'
+}
+
 complete -F _rematch rematch
 complete -F _rematch_to rematch-to
 complete -F _rematch_piece rematch-piece
 complete -F _rematch_cut rematch-cut
+complete -F _rematch_play rematch-play
+complete -F _rematch_serve rematch-serve
