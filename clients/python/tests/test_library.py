@@ -1,5 +1,6 @@
 """Queries in this process, by the library: the same rows and faults as by the program, and what is let go."""
 import gc
+import mmap
 import os
 import pickle
 import sys
@@ -49,6 +50,33 @@ class Spans(unittest.TestCase):
             spans = rematch.Query('/!x{a}/').spans(b'aba')
             self.assertIsInstance(spans, memoryview)
             self.assertEqual((spans.format, spans.shape, spans.tolist()), ('i', (2, 2), [[0, 1], [2, 3]]))
+
+
+@with_library
+class Memory(unittest.TestCase):
+    """What a call reads stays where it is until the call is over."""
+
+    def test_a_buffer_is_held_while_a_call_runs(self):
+        compiled = rematch.Query('/!x{a}/')._inside
+        opened = compiled._opened
+        for data, change in ((bytearray(b'aba'), lambda data: data.append(0)), (mmap.mmap(-1, 3), lambda data: data.close())):
+            data[:3] = b'aba'
+            refused = []
+
+            def trying(at, length, after, rows, data=data, change=change):
+                with self.assertRaises(BufferError):
+                    change(data)
+                refused.append(length)
+                return opened(at, length, after, rows)
+
+            with mock.patch.object(compiled, '_opened', trying):
+                rows = compiled.open(data)
+            self.assertEqual((rows.count(), refused), (2, [3]))
+            change(data)
+
+    def test_the_bytes_of_a_view_are_counted(self):
+        compiled = rematch.Query('/!x{.}/')._inside
+        self.assertEqual(compiled.open(memoryview(b'abcdefgh').cast('I')).count(), 8)
 
 
 @with_library

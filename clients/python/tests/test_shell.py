@@ -34,7 +34,7 @@ def options_to():
 
 class Bash(unittest.TestCase):
     def complete(self, *words, command='rematch'):
-        function = {'rematch': '_rematch', 'rematch-to': '_rematch_to', 'rematch-piece': '_rematch_piece', 'rematch-cut': '_rematch_cut'}[command]
+        function = '_' + command.replace('-', '_')
         text = 'source %s/rematch.bash; COMP_WORDS=(%s "$@"); COMP_CWORD=$#; %s; printf "%%s\\n" "${COMPREPLY[@]}"' % (SHELL, command, function)
         return run(['bash', '--norc', '-c', text, 'bash', *words], cwd=EXAMPLES).stdout.split()
 
@@ -64,6 +64,11 @@ class Bash(unittest.TestCase):
         self.assertEqual(self.complete('csv', 'auth', command='rematch-to'), ['auth.log'])
         self.assertEqual(self.complete('box', command='rematch-piece'), ['box.query'])
         self.assertEqual(self.complete('auth', command='rematch-cut'), ['auth.log'])
+        self.assertEqual(self.complete('-', command='rematch-play'), ['-e', '-q', '--port', '--open', '--help'])
+        self.assertEqual(self.complete('--port', '1', 'auth', command='rematch-play'), ['auth.log'])
+        self.assertEqual(self.complete('-q', 'failed', command='rematch-play'), ['failed.query'])
+        self.assertEqual(self.complete('', command='rematch-serve'), ['--seconds', '--version', '--help'])
+        self.assertEqual(self.complete('--seconds', '', command='rematch-serve'), [])
 
 
 class Fish(Folder):
