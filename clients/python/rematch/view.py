@@ -14,6 +14,7 @@ from typing import Dict, Iterable, List, NamedTuple, Optional, Sequence, Tuple
 
 from .documents import Document
 from .match import Row
+from .visible import BIDI, visible
 
 __all__ = ['fragment', 'page', 'section']
 
@@ -163,11 +164,15 @@ def lanes(bars: Sequence[Tuple[int, int]], most: int = _MOST_LANES) -> List[Opti
 _SIGNS = {'\t': '→', '\n': '↵', '\r': '␍'}
 
 
+def _is_kept(sign: str) -> bool:
+    return unicodedata.category(sign) in ('Cf', 'Zs') and sign not in BIDI
+
+
 def _shown(part: bytes) -> str:
     """The text of bytes, in HTML: what is no text as its bytes, what is not seen as a sign."""
     text = part.decode('utf-8', 'backslashreplace')
     if not text.isprintable():
-        text = ''.join(sign if sign.isprintable() or unicodedata.category(sign) in ('Cf', 'Zs') else _SIGNS.get(sign, '·') for sign in text)
+        text = ''.join(sign if sign.isprintable() or _is_kept(sign) else _SIGNS.get(sign, '·') for sign in text)
     return escape(text)
 
 
@@ -367,7 +372,7 @@ def page(sections: Iterable[Tuple[str, Document, Sequence[Row], bool]], names: S
     filter.
     """
     yield (f'<!doctype html>\n<html lang="en"><head><meta charset="utf-8"><meta name="viewport" content="width=device-width">'
-           f'<title>{escape(title)}</title><style>{PAGE_STYLE}{STYLE}</style></head><body>\n'
+           f'<title>{escape(visible(title))}</title><style>{PAGE_STYLE}{STYLE}</style></head><body>\n'
            '<div class="rm-bar" role="search" hidden><button data-to="-1">Previous</button><button data-to="1">Next</button>'
            '<input type="search" aria-label="Lines that have this text" placeholder="Filter lines">'
            '<output aria-live="polite"></output><a href="#documents" hidden>Documents</a></div>\n<main>\n')
@@ -375,9 +380,9 @@ def page(sections: Iterable[Tuple[str, Document, Sequence[Row], bool]], names: S
     total = 0
     for number, (name, document, rows, is_cut) in enumerate(sections, 1):
         first = ', the first rows alone' if is_cut else ''
-        yield (f'<section id="doc-{number}" aria-labelledby="h{number}"><h1 id="h{number}">{escape(name)}{first}</h1>'
+        yield (f'<section id="doc-{number}" aria-labelledby="h{number}"><h1 id="h{number}">{escape(visible(name))}{first}</h1>'
                f'<div class="rm">{section(document, names, rows, None, 1)}</div></section>\n')
-        listed.append(f'<li><a href="#doc-{number}">{escape(name)}</a> {len(rows)} row{"s" * (len(rows) != 1)}{first}</li>')
+        listed.append(f'<li><a href="#doc-{number}">{escape(visible(name))}</a> {len(rows)} row{"s" * (len(rows) != 1)}{first}</li>')
         total += len(rows)
     yield '</main>\n'
     if len(listed) > 1:

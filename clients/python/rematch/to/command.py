@@ -3,14 +3,14 @@ from __future__ import annotations
 
 import os
 import sys
-from contextlib import contextmanager
-from typing import Callable, Iterator, Optional, TextIO
+from typing import Any, Callable
 
 from .. import library
 from ..faults import RematchError
 from .._reach import NoReach
+from .output import Screen
 
-__all__ = ['REFUSED', 'line_of', 'output', 'run_told']
+__all__ = ['REFUSED', 'line_of', 'run_told']
 
 REFUSED = 4  # of what has no reach, which is a refusal for its size
 
@@ -23,22 +23,12 @@ def line_of(fault: Exception) -> str:
     return f'{name}: {told}' if name and name not in told else told
 
 
-@contextmanager
-def output(name: Optional[str]) -> Iterator[TextIO]:
-    """Where a command writes: a new file of that name, or else standard output; bytes that are no text are written as they are."""
-    if name is not None:
-        with open(name, 'w', encoding='utf-8', errors='surrogateescape', newline='\n') as file:
-            yield file
-        return
-    if hasattr(sys.stdout, 'reconfigure'):
-        sys.stdout.reconfigure(encoding='utf-8', errors='surrogateescape', newline='\n')
-    yield sys.stdout
-    sys.stdout.flush()
-
-
 def run_told(run: Callable[[], None]) -> int:
     """Runs, and gives the exit status: the program's own for its faults, 0 where the reader of the output has left."""
     before, library.allowed = library.allowed, False  # so that Ctrl-C ends what is asked
+    notes: Any = sys.stderr
+    if notes is not None and notes.isatty():
+        sys.stderr = Screen(notes)  # type: ignore[assignment]
     try:
         run()
         sys.stdout.flush()
@@ -60,7 +50,7 @@ def run_told(run: Callable[[], None]) -> int:
         _drop_output()
         return 8
     finally:
-        library.allowed = before
+        library.allowed, sys.stderr = before, notes
     return 0
 
 

@@ -3,7 +3,7 @@ from __future__ import annotations
 
 import os
 import sys
-from contextlib import contextmanager
+from contextlib import ExitStack, contextmanager
 from importlib import import_module
 from itertools import chain, islice
 from typing import Any, Callable, Dict, Iterable, Iterator, List, Optional, TextIO, Tuple
@@ -14,10 +14,11 @@ from ..faults import DocumentError, OutOfMemory, QueryError, RematchError, SizeE
 from ..match import Row
 from ..pieces import NoReach, reach
 from ..query import Query
-from .command import line_of, output, run_told
+from .command import line_of, run_told
 from .expand import Expanded, captured, expanded
 from .doubts import doubts_of, oddity_of
 from .nucleotides import small_letter, with_iupac
+from .output import input_at, output, written
 from .packed import Given
 from .progress import Progress
 from .forms import DOCUMENT_FORMS, Form, refuse
@@ -54,13 +55,16 @@ class Command:
         self.name: Optional[str] = None  # of the document that is read
         self.has_failed = False  # whether a document could not be read, where there are several
         self.status = 0
-        self.is_coloured = given.color == 'always' or (given.color in (None, 'auto') and out.isatty()
-                                                       and not os.environ.get('NO_COLOR'))
         self.expansion: Expanded = expanded(read_source(given))
         if given.form == 'check' and given.expanded:
             return
         self.query = self.read_query()
         self.tell_advice()
+
+    @property
+    def is_coloured(self) -> bool:
+        """Whether what was found is written in colour."""
+        return self.given.color == 'always' or (self.given.color in (None, 'auto') and self.out.isatty() and not os.environ.get('NO_COLOR'))
 
     def read_query(self) -> Query:
         words = {'filter': bool(self.given.filter), 'max_table': self.given.max_table}
@@ -234,19 +238,22 @@ class Command:
 
     def ann(self) -> None:
         from .tables import write_annotations
-        for name in self.names:
+        are_several = len(self.names) > 1
+        paths = annotation_names(self.names, str(self.given.out)) if are_several else [None]
+        for name, path in zip(self.names, paths):
             with self.guarded(name):
                 found = self.opened(Part(name))
                 try:
                     document = Document(found.whole().data[:].decode('utf-8'))
                 except UnicodeDecodeError as reason:
                     raise DocumentError(f'no UTF-8 at {reason.start}, and annotations count characters', 5) from None
-                if len(self.names) > 1:
-                    path = os.path.join(str(self.given.out), os.path.basename(name) + '.ann')
-                    with open(path, 'w', encoding='utf-8') as out:
-                        write_annotations(self.query, document, out)
-                else:
+                if path is None:
                     write_annotations(self.query, document, self.out)
+                    continue
+                if os.path.islink(path):
+                    raise DocumentError(f'{path} is a link, and is not written', 5)
+                with written(path) as out:
+                    write_annotations(self.query, document, out)
 
     def html(self) -> None:
         from ..view import page
@@ -348,18 +355,43 @@ def main(words: Optional[Iterable[str]] = None) -> int:
         other: Callable[[List[str]], int] = import_module('.' + asked[0], __package__).main
         return other(asked[1:])
     given = read_words(asked)
-    if given.form == 'ann' and len(given.documents) > 1 and not (given.out and os.path.isdir(given.out)):
-        refuse('ann of several documents needs -o FOLDER')
+    _refuse_output(given)
     found: List[int] = []
 
     def run() -> None:
-        to_file = given.out is not None and not os.path.isdir(given.out)
-        with output(given.out if to_file else None) as out, Progress() as progress:
-            command = Command(given, out, progress)
-            try:
-                command.run()
-            finally:
-                command.close()
+        with ExitStack() as stack:
+            command = Command(given, sys.stdout, stack.enter_context(Progress()))
+            stack.callback(command.close)
+            to_file = given.out is not None and not os.path.isdir(given.out)
+            command.out = stack.enter_context(output(given.out if to_file else None, comes_at_once=given.form == 'follow'))
+            command.run()
         found.append(1 if command.has_failed else command.status)
 
     return run_told(run) or (found[0] if found else 0)
+
+
+def _refuse_output(given: Words) -> None:
+    """Ends the command where its output would be lost, or would be written over what is read."""
+    are_several = given.form == 'ann' and len(given.documents) > 1
+    if are_several and not (given.out and os.path.isdir(given.out)):
+        refuse('ann of several documents needs -o FOLDER')
+    names = annotation_names(given.documents, str(given.out)) if are_several else [given.out] if given.out else []
+    if len(set(names)) < len(set(map(os.path.normpath, given.documents))) and are_several:
+        refuse('two documents would have annotations of one name: write them into two folders')
+    for name in names:
+        read = input_at(name, [*given.documents, given.name])
+        if read is not None:
+            refuse(f'{read} is read, so it cannot be the output too: give another -o')
+
+
+def annotation_names(documents: List[str], folder: str) -> List[str]:
+    """Where the annotations of several documents are written: below the folder, by their base names, or where two agree by more of their paths.
+
+    >>> annotation_names(['a/x.txt', 'b/x.txt', 'b/y.txt'], 'out')
+    ['out/a-x.txt.ann', 'out/b-x.txt.ann', 'out/y.txt.ann']
+    """
+    paths = [[part for part in os.path.normpath(document).split(os.sep) if part] for document in documents]
+    names = [parts[-1:] for parts in paths]
+    for depth in range(2, max(map(len, paths)) + 1):
+        names = [parts[-depth:] if names.count(name) > 1 else name for parts, name in zip(paths, names)]
+    return [os.path.join(folder, '-'.join(name) + '.ann') for name in names]

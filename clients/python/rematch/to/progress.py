@@ -7,6 +7,8 @@ import time
 from typing import Any, Iterable, Iterator, Optional, TypeVar
 
 from ..documents import Document
+from ..visible import visible
+from .output import Screen
 
 __all__ = ['Progress']
 
@@ -40,8 +42,7 @@ class Progress:
         if self._thread is not None:
             self._thread.join()
         if self._is_shown:
-            sys.stderr.write('\r\x1b[K')
-            sys.stderr.flush()
+            self._write('\r\x1b[K')
 
     def begin(self, name: str, document: Optional[Document]) -> None:
         """A document is begun."""
@@ -70,5 +71,10 @@ class Progress:
         while not self._ended.wait(_EVERY):
             if time.monotonic() - begun >= _FIRST:
                 self._is_shown = True
-                sys.stderr.write(f'\r{self.line()[:78]}\x1b[K')
-                sys.stderr.flush()
+                self._write(f'\r{visible(self.line())[:78]}\x1b[K')
+
+    @staticmethod
+    def _write(text: str) -> None:
+        stream: Any = sys.stderr.stream if isinstance(sys.stderr, Screen) else sys.stderr
+        stream.write(text)
+        stream.flush()

@@ -14,8 +14,9 @@ from typing import Any, Dict, Iterator, List, NamedTuple, NoReturn, Optional, Se
 
 from ..faults import QueryError
 from ..match import Row
-from .command import output, run_told
+from .command import run_told
 from .convert import Command
+from .output import input_at, output
 from .packed import Given
 from .progress import Progress
 from .tables import line_numbers, shown_text
@@ -295,6 +296,9 @@ def _read_words(words: Sequence[str]) -> argparse.Namespace:
         names[name.lower()] = name
     if given.out is not None and os.path.isdir(given.out):
         parser.error(f'-o {given.out} is a folder')
+    read = given.out and input_at(given.out, [*given.documents, *(source.text for source in given.sources if source.is_file), *(name for _, name in tables)])
+    if read:
+        parser.error(f'{read} is read, so it cannot be the output too')
     return given
 
 

@@ -11,6 +11,7 @@ from typing import Any, Callable, Dict, Iterable, Iterator, List, NamedTuple, Op
 from ..documents import REST, Document
 from ..match import Row
 from ..query import Query
+from ..visible import BIDI
 from .packed import Given
 from .sentences import sentence_round
 
@@ -223,7 +224,7 @@ def coloured(text: str) -> str:
 
 def _flat(text: str) -> str:
     """The text on one line."""
-    return ''.join(sign if sign.isprintable() or unicodedata.category(sign) == 'Cf' else '·'
+    return ''.join(sign if sign.isprintable() or (unicodedata.category(sign) == 'Cf' and sign not in BIDI) else '·'
                    for sign in re.sub(r'\s+', ' ', text))
 
 
