@@ -8,11 +8,12 @@ from __future__ import annotations
 from typing import Callable, Dict, FrozenSet, List, NamedTuple, Optional
 
 from .reader import read
-from .tree import Atom, Choice, Concatenation, Expression, Formula, Minus, Name, One, Project, Query, Repeat, Union_, captures_of
+from .tree import Atom, Choice, Concatenation, Expression, Formula, Minus, Name, One, Project, Query, Repeat, Union_, captures_of, expressions_of
 
-__all__ = ['NoReach', 'do_fits_touch', 'length_of_printed', 'reach_of_printed']
+__all__ = ['NoReach', 'Ties', 'do_fits_touch', 'length_of_printed', 'reach_of_printed', 'ties_of_printed']
 
 _NO_END = float('inf')
+_NO_END_OF_LINES = 'a repeat over line feeds has no end, as of [^"]* or (.|\\n)*'
 
 
 class NoReach(ValueError):
@@ -36,7 +37,28 @@ def reach_of_printed(printed: bytes) -> int:
       ...
     rematch._reach.NoReach: an anchor ties the formula /^!x{a}/ to an end of the document
     """
-    return _Reach(read(printed, is_limited=False), lambda one: float(one.fits_line_feed)).of_all('a repeat over line feeds has no end, as of [^"]* or (.|\\n)*')
+    return _Reach(read(printed, is_limited=False), lambda one: float(one.fits_line_feed)).of_all(_NO_END_OF_LINES)
+
+
+class Ties(NamedTuple):
+    """What ties the rows of a query to the text around them."""
+
+    lines: int  # the most line feeds in what the fits of a row cover together
+    is_to_start: bool  # whether a formula is tied to the start of the document
+    is_to_end: bool
+    has_minus: bool  # whether more text may take a row away
+
+
+def ties_of_printed(printed: bytes) -> Ties:
+    r"""What ties the rows of a query, of which the formulas may have anchors; `NoReach` where there is no most number of line feeds.
+
+    >>> ties_of_printed(rb'/^!x{a}\n/ minus /!x{a}b/')
+    Ties(lines=1, is_to_start=True, is_to_end=False, has_minus=True)
+    """
+    query = read(printed, is_limited=False)
+    expressions = [part for whole in (query.body, *(let.expression for let in query.lets)) for part in expressions_of(whole)]
+    return Ties(_Reach(query, lambda one: float(one.fits_line_feed), has_anchors=True).of_all(_NO_END_OF_LINES), any(atom.is_first for atom in query.atoms),
+                any(atom.is_last for atom in query.atoms), any(isinstance(part, Minus) for part in expressions))
 
 
 def length_of_printed(printed: bytes) -> int:

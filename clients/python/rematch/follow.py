@@ -1,20 +1,19 @@
 """Rows of a text that grows, as they come: what is read again at each step is as many lines as the query reaches.
 
 A row whose fits have new text in them lies in the new lines and in as many before them as the query reaches. So these are
-searched, and the rows that were given before are left out. Where the query has a ``minus``, later text may take a row away: such
-rows are given when as many lines follow them.
+searched, and the rows that were given before are left out. Where the query has a ``minus`` or a ``$``, later text may take a row away:
+such rows are given when as many lines follow them. Where it has a ``^``, rows at the start of what is searched may be false, and are left out.
 """
 from __future__ import annotations
 
 import os
-import re
 import time
 from typing import IO, TYPE_CHECKING, Any, Callable, Iterator, NamedTuple, Optional, Set, Union
 
 from .documents import MOST_BYTES, Document, unreadable
 from .faults import DocumentError
 from .match import Match, Row
-from .pieces import NoReach, lines_back, reach
+from .pieces import NoReach, lines_back, ties
 
 if TYPE_CHECKING:
     from .query import Query
@@ -23,7 +22,6 @@ __all__ = ['File', 'Followed', 'Step', 'Window', 'first_place', 'followed', 'lin
 
 _READ = 1 << 20  # bytes that are asked for at once
 _TAIL = 64  # bytes before the place, by which a file that was cut and filled again is known
-_ATOM = re.compile(rb'/(?:[^\\/]|\\.)*/', re.S)
 
 
 class Window(Document):
@@ -81,9 +79,10 @@ class Followed:
     def __init__(self, query: 'Query', name: Optional[str] = None) -> None:
         self.query = query
         self.name = name
-        self.lines = reach(query)  # raises where there is none
-        outside = _ATOM.sub(b' ', query.printed.encode('utf-8', 'surrogateescape'))
-        self.waits = re.search(rb'\bminus\b', outside) is not None
+        found = ties(query)  # raises where there is no reach
+        self.lines = found.lines
+        self.waits = found.has_minus or found.is_to_end  # whether more text may take a row away
+        self.guard = self.lines + 1 if found.is_to_start else 0  # the lines at the start of a window in which rows may be false
         self.kept = b''  # whole lines that new ones may be searched with, and then what has no line feed yet
         self.begins = 0  # of what is kept, in the text
         self.line = 1  # the number of the first line of what is kept
@@ -96,7 +95,7 @@ class Followed:
         self._forget()
         self.kept += part
         end = self.kept.rfind(b'\n') + 1
-        return self._search(end, self._back(end) if self.waits else end) if end > self._searched and end else self._nothing()
+        return self._search(end, self._back(end, self.lines) if self.waits else end) if end > self._searched and end else self._nothing()
 
     def end(self) -> Step:
         """The rows that are left when nothing more comes."""
@@ -106,12 +105,12 @@ class Followed:
 
     def pass_over(self, file: IO[bytes], place: int) -> None:
         """Takes what is before a place of the file as known: the rows that it has are not given."""
-        first = lines_back(file, place, 2 * self.lines)
+        first = lines_back(file, place, 2 * self.lines + self.guard)
         file.seek(first)
         self.kept, self.begins = file.read(place - first), first
         self._searched = len(self.kept)
         whole = self.kept.rfind(b'\n') + 1
-        self._settled = first + (self._back(whole) if self.waits else whole)
+        self._settled = first + (self._back(whole, self.lines) if self.waits else whole)
         self._given = {self._moved(row) for row in self.query.rows(self.kept)}
 
     def _nothing(self) -> Step:
@@ -126,7 +125,8 @@ class Followed:
         self._searched = end
         before = self._settled
         if not self.waits:
-            return Step(window, self._new(window))
+            valid = self.begins + self._guarded()
+            return Step(window, (row for row in self._new(window) if valid <= first_place(row)))
         if limit is None:
             return Step(window, (row for row in self._new(window) if before <= first_place(row)))
         self._settled = max(before, self.begins + limit)
@@ -145,16 +145,23 @@ class Followed:
         first_place(row)
         return tuple([place + self.begins if place >= 0 else place for place in row])
 
-    def _back(self, end: int) -> int:
-        """The start of the line that is as many lines before the end as the query reaches."""
-        for _ in range(self.lines):
+    def _back(self, end: int, lines: int) -> int:
+        """The start of the line that is so many lines before the end."""
+        for _ in range(lines):
             end = self.kept.rfind(b'\n', 0, max(0, end - 1)) + 1
         return end
+
+    def _guarded(self) -> int:
+        """Where the lines end in which rows may be false, since the window begins as if it were the text."""
+        at = 0
+        for _ in range(self.guard if self.begins else 0):
+            at = self.kept.find(b'\n', at) + 1
+        return at
 
     def _forget(self) -> None:
         """Drops the lines that no new row can reach."""
         whole = self.kept.rfind(b'\n', 0, max(0, self._searched)) + 1
-        start = self._back(self._back(whole) if self.waits else whole)
+        start = self._back(whole, self.lines * (2 if self.waits else 1) + self.guard)
         if not start:
             return
         self.line += self.kept.count(b'\n', 0, start)

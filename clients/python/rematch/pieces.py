@@ -16,9 +16,9 @@ from typing import IO, Any, Dict, Iterator, List, NamedTuple, Optional, Sequence
 from .documents import unreadable, packed_by
 from .match import Row
 from .query import Query
-from ._reach import NoReach, reach_of_printed
+from ._reach import NoReach, Ties, reach_of_printed, ties_of_printed
 
-__all__ = ['NoReach', 'Piece', 'cuts', 'reach', 'rows_of_piece', 'rows_in_pieces', 'table_of_piece']
+__all__ = ['NoReach', 'Piece', 'cuts', 'reach', 'rows_of_piece', 'rows_in_pieces', 'table_of_piece', 'ties']
 
 Path = Union[str, 'os.PathLike[str]']
 _BLOCK = 1 << 16  # bytes that are read at once in search of line feeds
@@ -45,9 +45,24 @@ def reach(query: Query) -> int:
       ...
     rematch._reach.NoReach: parts of a join share no variable, so they may be any number of lines apart
     """
+    return reach_of_printed(_with_places(query))
+
+
+def ties(query: Query) -> Ties:
+    """The same, with what else ties the rows to the text around them: anchors are no hindrance here.
+
+    >>> from rematch import Query
+    >>> ties(Query('/^!x{a}/')).is_to_start
+    True
+    """
+    return ties_of_printed(_with_places(query))
+
+
+def _with_places(query: Query) -> bytes:
+    """The printed query, of which each row has a place."""
     if not query.variables:
         raise NoReach('the query has no variables, and a row without spans begins nowhere')
-    return reach_of_printed(query.printed.encode())
+    return query.printed.encode()
 
 
 def _open(path: Path) -> IO[bytes]:

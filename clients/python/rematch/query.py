@@ -348,8 +348,8 @@ class Query(Variables):
         it is read from its start, also where it was filled again past its old length.
 
         Whole lines are searched, with as many before them as the query reaches, so that each step costs what is new; `NoReach`
-        says why a query has no reach. Each row is given once. Of a query with ``minus`` a row comes when as many lines follow
-        it as the query reaches. What has no line feed is searched at the end.
+        says why a query has no reach. Each row is given once. Of a query with ``minus`` or ``$`` a row comes when as many lines
+        follow it as the query reaches. What has no line feed is searched at the end.
 
         >>> import io
         >>> [(match.span('x'), match['x']) for match in Query('/!x{[0-9]+} up/').follow(io.BytesIO(b'7 up, 8 up'))]

@@ -9,7 +9,7 @@ import unittest
 
 import rematch
 from rematch.follow import File, Followed, steps
-from rematch.pieces import reach
+from rematch.pieces import ties
 from rematch.to.small import SmallDocuments
 from support import Folder, needs_speed
 
@@ -36,14 +36,15 @@ class Drawn:
 
     def formula(self, names):
         """A formula in which these variables are captured."""
-        return '/' + self.steps() + ''.join('!%s{%s}%s' % (name, self.steps(), self.steps()) for name in names) + '/'
+        first, last = self.pick.choice(['^', '', '', '']), self.pick.choice(['$', '', '', ''])
+        return '/' + first + self.steps() + ''.join('!%s{%s}%s' % (name, self.steps(), self.steps()) for name in names) + last + '/'
 
     def query(self):
         self.has_lines = self.pick.randrange(3) > 0  # whether a formula may reach over lines
         names = self.pick.choice(['x', 'x', 'xy'])
         first = text = self.formula(names)
         for _ in range(self.pick.choice([0, 1, 1, 2])):
-            longer = '/%s%s%s/' % (self.steps(), first[1:-1], self.steps())  # it often takes rows away
+            longer = '/%s%s%s/' % (self.steps(), first[1:-1].strip('^$'), self.steps())  # it often takes rows away
             text += ' %s %s' % (self.pick.choice(['minus', 'minus', 'union']), self.pick.choice([longer, self.formula(names)]))
         if self.pick.randrange(5) == 0:
             text = '(%s) join %s' % (text, self.formula(names))
@@ -58,7 +59,7 @@ class Drawn:
             text = self.query()
             query = SmallDocuments(text)
             try:
-                reach(query)
+                ties(query)
             except rematch.NoReach:
                 continue
             return query, text, self.document()
@@ -96,7 +97,9 @@ class Streams(unittest.TestCase):
     def test_queries_that_failed_once(self):
         for text, document in ((r'/!w{\w*}/ minus /!w{\w*}\w/ minus /\w!w{\w*}/', b'ab\ncd\n'), (r'/!x{[^\n]*}/ minus /!x{\w*}b/', b'a\nab\nb'),
                                (r'/!x{b}/ minus /a\n!x{b}/', b'a\nb\n'), (r'/!y{a}\n!x{b}/', b'a\nb\n'), ('/!x{}/', b''), ('/!x{a*}/', b''),
-                               (r'/!y{a}\n!x{b}/ minus /!y{a}\n!x{b}b/', b'a\nb\na\nbb\n')):
+                               (r'/!y{a}\n!x{b}/ minus /!y{a}\n!x{b}b/', b'a\nb\na\nbb\n'), ('/^!x{a}/', b'a\na\na'), ('/!x{a}$/', b'a\na\na'),
+                               ('/!x{a}/ minus /^!x{a}/', b'a\na\na'), (r'/!x{a}/ minus /!x{a}\n?$/', b'a\na\na\n'),
+                               (r'/^!x{a}/ union /\n!x{a}/', b'a\na\na'), (r'/!x{a}\n/ union /!x{a}$/', b'a\na\na')):
             self.check(rematch.Query(text), text, document, range(len(document) + 1))
 
     def test_rows_come_with_their_lines(self):
@@ -148,7 +151,7 @@ class Streams(unittest.TestCase):
         self.assertEqual([match.row for match in rematch.Query('/!x{}/').follow(io.BytesIO(b''))], [(0, 0)])
 
     def test_refused(self):
-        for text, note in (('/^!x{a}/', 'an anchor'), ('/!x{[^,]*}/', 'has no end'), ('/a/', 'has no variables')):
+        for text, note in (('/!x{[^,]*}/', 'has no end'), ('/a/', 'has no variables')):
             with self.assertRaisesRegex(rematch.NoReach, note):
                 rematch.Query(text).follow(io.BytesIO(b'a'))
         with self.assertRaisesRegex(rematch.NoReach, 'begins nowhere'):

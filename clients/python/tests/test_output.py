@@ -37,7 +37,7 @@ class Files(Folder):
     def test_what_was_there_stays_where_there_is_a_fault(self):
         document, out = self.file('d', b'aa\n'), self.file('o', b'old\n')
         for words, status in ((('csv', '-e', '/!x{a/', '-o', out, document), 3), (('csv', *QUERY, '-o', out, os.path.join(self.folder, 'none')), 5),
-                              (('csv', *QUERY, '--columns', 'no', '-o', out, document), 2), (('follow', '-e', '/^!x{a}/', '-o', out, document), 4)):
+                              (('csv', *QUERY, '--columns', 'no', '-o', out, document), 2), (('follow', '-e', '/!x{[^,]*}/', '--idle', '0', '-o', out, document), 4)):
             self.assertEqual(asked(*words)[0], status, words)
             self.assertEqual((self.read(out), sorted(os.listdir(self.folder))), (b'old\n', ['d', 'o']), words)
 
