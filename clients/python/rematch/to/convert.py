@@ -18,7 +18,7 @@ from .command import line_of, run_told
 from .expand import Expanded, captured, expanded
 from .doubts import doubts_of, oddity_of
 from .nucleotides import small_letter, with_iupac
-from .output import input_at, output, written
+from .output import fault_of_output, output, written
 from .packed import Given
 from .progress import Progress
 from .forms import DOCUMENT_FORMS, Form, refuse
@@ -379,9 +379,9 @@ def _refuse_output(given: Words) -> None:
     if len(set(names)) < len(set(map(os.path.normpath, given.documents))) and are_several:
         refuse('two documents would have annotations of one name: write them into two folders')
     for name in names:
-        read = input_at(name, [*given.documents, given.name])
-        if read is not None:
-            refuse(f'{read} is read, so it cannot be the output too: give another -o')
+        fault = None if os.path.isdir(name) else fault_of_output(name, [*given.documents, given.name])
+        if fault is not None:
+            refuse(fault)
 
 
 def annotation_names(documents: List[str], folder: str) -> List[str]:

@@ -2,7 +2,6 @@
 from __future__ import annotations
 
 import argparse
-import os
 import sys
 from contextlib import ExitStack
 from itertools import islice
@@ -12,9 +11,10 @@ from ..faults import OutOfMemory, QueryError, SizeError
 from ..match import Row
 from ..query import Query
 from ..reader import read
-from .command import output, run_told
+from .command import run_told
 from .convert import Command
 from .jobs import Part
+from .output import fault_of_output, output
 from .packed import Given
 from .progress import Progress
 from .tables import Layout, Table
@@ -166,8 +166,9 @@ def main(words: Sequence[str]) -> int:
     """Runs the command; the status is 0 where nothing is lost or gained and 1 where something is, 5 where one of several documents could not
     be read, and otherwise that of the program for its faults, or 2 for words that are refused."""
     given = _parser().parse_intermixed_args(list(words))
-    if given.out is not None and os.path.isdir(given.out):
-        _parser().error(f'-o {given.out} is a folder')
+    fault = fault_of_output(given.out, [*given.documents, given.old, given.new])
+    if fault is not None:
+        _parser().error(fault)
     found: List[Tuple[bool, bool]] = []
 
     def run() -> None:

@@ -11,7 +11,7 @@ from typing import Any, Iterable, Iterator, Optional, Sequence, TextIO
 
 from ..visible import BIDI
 
-__all__ = ['Screen', 'input_at', 'output', 'written']
+__all__ = ['Screen', 'fault_of_output', 'output', 'written']
 
 _COLOURS = ('\x1b[1;31m', '\x1b[m')  # of what was found
 _CONTROL = re.compile('|'.join(map(re.escape, _COLOURS)) + f'|[\x00-\x08\x0b-\x1f\x7f-\x9f{BIDI}\udc80-\udc9f]')
@@ -40,7 +40,7 @@ class Screen:
         return getattr(self.stream, name)
 
 
-def input_at(name: str, inputs: Sequence[Optional[str]]) -> Optional[str]:
+def _input_at(name: str, inputs: Sequence[Optional[str]]) -> Optional[str]:
     """The first of these names that is the same file as the output of that name, which would be lost; None where none is."""
     try:
         out = os.stat(name)
@@ -54,6 +54,16 @@ def input_at(name: str, inputs: Sequence[Optional[str]]) -> Optional[str]:
         if found is not None and stat.S_ISREG(found.st_mode) and (found.st_dev, found.st_ino) == (out.st_dev, out.st_ino):
             return given
     return None
+
+
+def fault_of_output(name: Optional[str], inputs: Sequence[Optional[str]]) -> Optional[str]:
+    """Why a command cannot write to a file of that name, where it reads these; None where it can."""
+    if name is None:
+        return None
+    if os.path.isdir(name):
+        return f'-o {name} is a folder'
+    read = _input_at(name, inputs)
+    return None if read is None else f'{read} is read, so it cannot be the output too: give another -o'
 
 
 @contextmanager

@@ -16,7 +16,7 @@ from ..faults import QueryError
 from ..match import Row
 from .command import run_told
 from .convert import Command
-from .output import input_at, output
+from .output import fault_of_output, output
 from .packed import Given
 from .progress import Progress
 from .tables import line_numbers, shown_text
@@ -294,11 +294,9 @@ def _read_words(words: Sequence[str]) -> argparse.Namespace:
         if name.lower() in names:
             parser.error(f'there are two tables {name}: write TABLE=NAME for one of them')
         names[name.lower()] = name
-    if given.out is not None and os.path.isdir(given.out):
-        parser.error(f'-o {given.out} is a folder')
-    read = given.out and input_at(given.out, [*given.documents, *(source.text for source in given.sources if source.is_file), *(name for _, name in tables)])
-    if read:
-        parser.error(f'{read} is read, so it cannot be the output too')
+    fault = fault_of_output(given.out, [*given.documents, *(source.text for source in given.sources if source.is_file), *(name for _, name in tables)])
+    if fault is not None:
+        parser.error(fault)
     return given
 
 
