@@ -2,7 +2,7 @@
 """Eight workloads on rematch and on other tools, as tables.
 
     bench/workloads.py [--only ABCDEFGU] [--times N] [--seconds S] [--program PATH]
-                       [--engine PATH --bodies stay,layer] [--growth] [--instructions] [--texts]
+                       [--engine PATH --bodies stay,layer] [--growth] [--instructions] [--texts] [--keep]
 
 Each tool gets the same document; what it prints goes to /dev/null, and its rows are counted in a run of
 their own. The tools run in turn, N rounds of all of them, so that a busy hour meets each alike. A figure is the
@@ -19,7 +19,8 @@ seconds of processor time, the median of the N runs, and the least of them, with
 measure.c and others.cpp are built on the way (cc, g++; libpcre2-dev, libhyperscan-dev, libre2-dev of Debian);
 where others.cpp cannot be built, its three are left out. --growth measures rematch on A and C at 1, 2, 4 and 8
 times the document, --instructions counts what rematch does for a byte and for a row by valgrind's callgrind,
---texts measures queries with a text that is searched for. Python 3.8, standard library; Linux, a C compiler.
+--texts measures queries with a text that is searched for. With --keep the tables of all workloads, or those of their
+instructions, are written to bench/measured too, from which docs/make makes the tables of bench/README.md. Python 3.8, standard library; Linux, a C compiler.
 """
 import argparse
 import hashlib
@@ -174,8 +175,10 @@ def show(work, given):
     tools = {tool: command for tool, command in commands(work, given, document) if shutil.which(command[0])}
     runs = in_turn(tools, given)
     total = text = None
+    kept = {}
     for tool, command in commands(work, given, document):
         if not runs.get(tool):
+            kept[tool] = 'more than %g' % given.seconds if tool in tools else '-'
             print('| %s | %s | | | | |' % (tool, 'more than %g' % given.seconds if tool in tools else 'not installed'))
             continue
         told, rows = output(tool, command)
@@ -185,6 +188,27 @@ def show(work, given):
         share = '%.4g%%' % (100 * rows / total) if total and not work.more else '-'
         print('| %s | %.3f | %.3f | %.0f | %d | %s |%s' % (tool, *figure(runs[tool]), rows, share, ' OTHER TEXT' if apart else ''))
         sys.stdout.flush()
+        _, least, peak = figure(runs[tool])
+        kept[tool] = '%.3f' % least + (', ' + share if share not in ('-', '100%') else '')
+        if tool == 'rematch':
+            kept.update({'rows': format(rows, ','), 'MB': '%.0f' % peak})
+    return kept
+
+
+def keep(found, given):
+    """Writes the two tables of the workloads: beside the bodies, and beside other tools."""
+    facts = {'how': 'bench/workloads.py --keep',
+             'note': 'The least processor seconds of %d rounds in turn, and the share of all rows where it is not all.' % given.times}
+    names = ['%s: %s' % (work.name, work.what) for work in WORKLOADS]
+    bodies = given.bodies.split(',')
+    rows = [[name] + [kept.get(key, '-') for key in ['rows', 'rematch', *bodies, 'MB']] for name, kept in zip(names, found)]
+    measured.keep('workloads', ['Workload', 'Rows', 'rematch'] + ['`%s`' % body for body in bodies] + ['MB'], rows, given.program,
+                  what='seven workloads', **facts)
+    others = {'pcre2': '`pcre2`, all rows', 'perl': 'Perl, all rows', 'hyperscan': '`hyperscan`', 're2': '`re2`', 'rg': '`rg`',
+              'pcre2grep': '`pcre2grep`'}
+    rows = [[work.name] + [kept.get(key, '-') for key in ['rematch', *others]] for work, kept in zip(WORKLOADS, found)]
+    measured.keep('other_tools', ['Workload', 'rematch', *others.values()], rows, given.program,
+                  what='seven workloads by other tools', **facts)
 
 
 def show_growth(given):
@@ -238,10 +262,12 @@ def main():
     parser.add_argument('--seconds', type=float, default=25)
     parser.add_argument('--growth', action='store_true')
     parser.add_argument('--instructions', action='store_true')
-    parser.add_argument('--keep', action='store_true', help='write the instructions to bench/measured')
+    parser.add_argument('--keep', action='store_true', help='write the tables to bench/measured')
     parser.add_argument('--texts', action='store_true')
     given = parser.parse_args()
     given.program = os.path.abspath(given.program)
+    if given.keep and (given.only != 'ABCDEFGU' or given.growth or given.texts):
+        parser.error('--keep is for all workloads, or for their instructions')
     print('load %.2f of %d processors' % (os.getloadavg()[0], os.cpu_count()))
     with tempfile.TemporaryDirectory() as given.folder:
         given.others = build(given.folder)
@@ -250,9 +276,9 @@ def main():
         elif given.instructions:
             show_instructions(given)
         else:
-            for work in TEXTS if given.texts else WORKLOADS:
-                if given.texts or work.name in given.only:
-                    show(work, given)
+            found = [show(work, given) for work in (TEXTS if given.texts else WORKLOADS) if given.texts or work.name in given.only]
+            if given.keep:
+                keep(found, given)
 
 
 if __name__ == '__main__':

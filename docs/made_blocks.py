@@ -248,7 +248,7 @@ def speed(_):
     rows = []
     for row in ours.rows:
         letter, _, what = row[0].partition(': ')
-        if letter in 'ABEF':
+        if letter in tuple('ABEF'):
             other = by[letter]
             rows.append([what, row[1], other['rematch'], other['`pcre2`, all rows'], other['`rg`']])
     return table(['Document', 'Rows', 'rematch', 'PCRE2, made to return all rows', 'ripgrep'], rows) + '\n\n' + wrapped(
