@@ -275,6 +275,11 @@ named_reads {ps} {t} {u} {p} {q} {n} {m} k search same stands done =
     subst (λ graph. PassReads ps t p n u (let r : Pass = record { graph = graph; known = q.known; search = search; at = q.at } in r) m) (sym (own_layer u q.graph q.known k stands))
     (record { read = done.read; goes_on = record { ready = done.goes_on.ready; known = done.goes_on.known; waits = subst (λ a. KnowsWaiting u.graph.ways a.waiting) (sym same) done.goes_on.waits } })
 
+-- the search with another number of bytes for which the layer counts as unchanged
+abbrev pub with_quiet : Search → ℕ → Search
+with_quiet s quiet =
+    record { skipper = s.skipper; ahead = s.ahead; quiet = quiet; far = s.far; waits = s.waits; later = s.later; fresh = s.fresh }
+
 -- something else may be searched for
 pub searched : {t0 t : Tabled} {p0 : Pass} {n0 n : ℕ} {bytes : List ℕ} {j : ℕ} (k : Option ℕ) (p : Pass) (search : Search) →
     search.ahead ≡ p.search.ahead → IsAdvanced t0 p0 n0 bytes j t (as_layer k p) n →

@@ -1,8 +1,7 @@
 use Rattle.std.proofs.Common.{◌≡◌, ◌<◌, Some, length, arith, refl}
-use Rattle.one_pass.specs.declared.search.Search.{Search}
 use Rattle.one_pass.specs.Numbered.{moved_to}
 use Rattle.one_pass.proofs.Advancing.{advanced_gives_up, advanced_more}
-use Rattle.one_pass.proofs.NumberedLaws.{searched}
+use Rattle.one_pass.proofs.NumberedLaws.{searched, with_quiet}
 use Rattle.one_pass.proofs.pass.Pass.read_next.Goals as goal
 
 pub returns-then-outlook-bytes-clause-read : goal.returns-then-outlook-bytes-clause-read
@@ -12,7 +11,7 @@ returns-then-outlook-bytes-clause-read g c =
     let none : outlook.count ≡ 0 = omega (arith, c.look_ahead-outlook.ensures.noted) in
     let ahead = rw none at c.look_ahead-outlook.ensures.ahead in
     let led = ahead.led p.graph c.args.steps.now c.args.steps.now (refl, refl) in
-    let search : Search = record { skipper = p.search.skipper; ahead = p.search.ahead; quiet = outlook.quiet; far = p.search.far; waits = p.search.waits } in
+    let search = with_quiet p.search outlook.quiet in
     let past = searched (Some outlook.layer) (moved_to p.graph outlook.bytes p) search refl led.advanced in
     record { advanced = past; stands = led.stands; within = c.look_ahead-outlook.ensures.within }
 
@@ -23,7 +22,7 @@ read_unknown-requires-clause-goes_on g c =
     let none : outlook.count ≡ 0 = omega (arith, c.look_ahead-outlook.ensures.noted) in
     let ahead = rw none at c.look_ahead-outlook.ensures.ahead in
     let led = ahead.led p.graph c.args.steps.now c.args.steps.now (refl, refl) in
-    let search : Search = record { skipper = p.search.skipper; ahead = p.search.ahead; quiet = outlook.quiet; far = p.search.far; waits = p.search.waits } in
+    let search = with_quiet p.search outlook.quiet in
     let past = searched (Some outlook.layer) (moved_to p.graph outlook.bytes p) search refl led.advanced in
     past.reads.goes_on
 
@@ -34,7 +33,7 @@ read_unknown-requires-clause-stands g c =
     let none : outlook.count ≡ 0 = omega (arith, c.look_ahead-outlook.ensures.noted) in
     let ahead = rw none at c.look_ahead-outlook.ensures.ahead in
     let led = ahead.led p.graph c.args.steps.now c.args.steps.now (refl, refl) in
-    let search : Search = record { skipper = p.search.skipper; ahead = p.search.ahead; quiet = outlook.quiet; far = p.search.far; waits = p.search.waits } in
+    let search = with_quiet p.search outlook.quiet in
     let past = searched (Some outlook.layer) (moved_to p.graph outlook.bytes p) search refl led.advanced in
     led.stands
 
@@ -45,7 +44,7 @@ returns-in-Ok-clause-read g c =
     let none : outlook.count ≡ 0 = omega (arith, c.look_ahead-outlook.ensures.noted) in
     let ahead = rw none at c.look_ahead-outlook.ensures.ahead in
     let led = ahead.led p.graph c.args.steps.now c.args.steps.now (refl, refl) in
-    let search : Search = record { skipper = p.search.skipper; ahead = p.search.ahead; quiet = outlook.quiet; far = p.search.far; waits = p.search.waits } in
+    let search = with_quiet p.search outlook.quiet in
     let past = searched (Some outlook.layer) (moved_to p.graph outlook.bytes p) search refl led.advanced in
     let within : outlook.bytes < length c.args.bytes.now = omega (arith, c.look_ahead-outlook.ensures.within) in
     record { advanced = advanced_more past within c.in-Ok.ensures.read c.in-Ok.ensures.at; stands = c.in-Ok.ensures.stands; within = omega (arith, within) }
@@ -57,7 +56,7 @@ returns-in-Err-clause-given_up g c =
     let none : outlook.count ≡ 0 = omega (arith, c.look_ahead-outlook.ensures.noted) in
     let ahead = rw none at c.look_ahead-outlook.ensures.ahead in
     let led = ahead.led p.graph c.args.steps.now c.args.steps.now (refl, refl) in
-    let search : Search = record { skipper = p.search.skipper; ahead = p.search.ahead; quiet = outlook.quiet; far = p.search.far; waits = p.search.waits } in
+    let search = with_quiet p.search outlook.quiet in
     let past = searched (Some outlook.layer) (moved_to p.graph outlook.bytes p) search refl led.advanced in
     let within : outlook.bytes < length c.args.bytes.now = omega (arith, c.look_ahead-outlook.ensures.within) in
     advanced_gives_up past within c.in-Err.ensures.given_up

@@ -1,7 +1,6 @@
 use Rattle.std.proofs.Common.{Some, refl}
-use Rattle.one_pass.specs.declared.search.Search.{Search}
 use Rattle.one_pass.specs.Numbered.{moved_to}
-use Rattle.one_pass.proofs.NumberedLaws.{searched}
+use Rattle.one_pass.proofs.NumberedLaws.{searched, with_quiet}
 use Rattle.one_pass.proofs.pass.Pass.read_numbered.Goals as goal
 
 pub run_programs-requires-clause-within : goal.run_programs-requires-clause-within
@@ -19,5 +18,5 @@ returns-in-Ok-clause-read g c =
     let outlook = c.look_ahead-outlook.result in
     let run = rw c.programs.ensures at c.in-Ok.ensures.run in
     let led = c.look_ahead-outlook.ensures.ahead.led c.run_programs.new.self c.args.steps.now c.run_programs.new.steps run in
-    let search : Search = record { skipper = p.search.skipper; ahead = p.search.ahead; quiet = outlook.quiet; far = p.search.far; waits = p.search.waits } in
+    let search = with_quiet p.search outlook.quiet in
     record { advanced = searched (Some outlook.layer) (moved_to c.run_programs.new.self outlook.bytes p) search refl led.advanced; stands = led.stands; within = c.look_ahead-outlook.ensures.within }
