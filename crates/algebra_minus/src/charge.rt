@@ -1,8 +1,8 @@
 //! What following one set with some markers takes from the effort.
 //!
 //! It takes so many steps for each thing that is looked at or kept, and altogether no more than the automaton of the
-//! right side allows. That takes nothing away: a set has at most all its states, each way is looked at once, and there
-//! are at most 256 parts, as each has a byte that no other has.
+//! right side allows. That takes nothing away where no list names a state twice: a set has at most all its states, each
+//! way is looked at once, and there are at most 256 parts, as each has a byte that no other has.
 ghost use Rattle.std.specs.Prelude.{◌+◌, ◌≤◌};
 ghost use Rattle.algebra_minus.specs.Steps.{partition_steps};
 
