@@ -1,7 +1,7 @@
 //! What is read of the formulas of the table.
 
 use crate::formula_texts::Lines;
-use formula_parser::{FormulaFault, Room, read_atom};
+use formula_parser::{FormulaFault, read_atom};
 use span_core::ByteSet;
 use spanner_model::{Atom, Formula};
 use std::alloc::Global;
@@ -63,10 +63,7 @@ fn is_set_line(alloc: Global, line: &str) -> bool {
 /// What is read of the text; None where no slash stands at its start.
 fn read(alloc: Global, text: &[u8]) -> Option<Result<(Atom, usize), FormulaFault>> {
     match text.get(0) {
-        Some(b'/') if text.len() <= 65_536 => {
-            let mut room = Room::new();
-            Some(read_atom(alloc, text, 0, &mut room))
-        }
+        Some(b'/') if text.len() <= 65_536 => Some(read_atom(alloc, text, 0)),
         _ => None,
     }
 }

@@ -1,6 +1,7 @@
 pub mod RunLaws
 pub mod EscapeLaws
 pub mod HeadLaws
+mod HexLaws
 pub mod RepeatLaws
 pub mod ClassBytes
 pub mod ClassSets

@@ -11,7 +11,6 @@ ghost use Rattle.formula_parser.specs.CharView.{Holds, chosen_set, IsElemOf, IsE
 
 use crate::characters::{CharElem, elem_at, set_of, tree, wide_at};
 use crate::fault::FormulaFault;
-use crate::room::Room;
 use crate::tokens::begins_with;
 use span_core::OutOfMemory;
 use spanner_model::Formula;
@@ -217,7 +216,6 @@ fn chosen(alloc: Global, negated: bool, items: CharSet) -> Result<CharSet, OutOf
 /// The class with these items, from its `[` at `from` to before the place `end`.
 fn close(
     alloc: Global,
-    room: &mut Room,
     negated: bool,
     from: usize,
     end: usize,
@@ -228,7 +226,7 @@ fn close(
         → IsClassRead trees result (closed_class (with_characters trees) negated from end s) }
 {
     let set = chosen(alloc, negated, items)?;
-    match tree(alloc, room, &set)? {
+    match tree(alloc, &set)? {
         Some(formula) => Ok((formula, end - from)),
         None => Err(FormulaFault::BadRange { at: from }),
     }
@@ -237,7 +235,6 @@ fn close(
 /// Reads the items of a class, the first of which stands at the place `first`.
 fn read_items(
     alloc: Global,
-    room: &mut Room,
     negated: bool,
     from: usize,
     first: usize,
@@ -266,7 +263,7 @@ fn read_items(
                 read += 1;
             }
             CharToken::End => {
-                return close(alloc, room, negated, from, at + 1, all(alloc, items, at)?);
+                return close(alloc, negated, from, at + 1, all(alloc, items, at)?);
             }
         }
     }
@@ -276,7 +273,6 @@ fn read_items(
 /// takes with both brackets.
 pub(crate) fn class_at(
     alloc: Global,
-    room: &mut Room,
     at: usize,
     text: &[u8],
 ) -> Result<(Formula, usize), FormulaFault>
@@ -286,8 +282,8 @@ pub(crate) fn class_at(
 {
     if begins_with(text, b'^') {
         let (_, others) = text.split_at(1);
-        read_items(alloc, room, true, at, at + 2, others)
+        read_items(alloc, true, at, at + 2, others)
     } else {
-        read_items(alloc, room, false, at, at + 1, text)
+        read_items(alloc, false, at, at + 1, text)
     }
 }

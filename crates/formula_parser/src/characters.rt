@@ -1,5 +1,5 @@
 //! The units of a formula over characters that differ from those over bytes: the dot, escapes and classes.
-ghost use Rattle.std.specs.Prelude.{◌≡◌, ℕ, ◌+◌, ◌<◌, length, Some, IfOk, IsTrue, MatchOption};
+ghost use Rattle.std.specs.Prelude.{◌≡◌, ℕ, ◌+◌, ◌<◌, length, Some, IfSome, IfOk, IsTrue, MatchOption};
 ghost use Rattle.std.specs.Option.{option_map};
 ghost use Rattle.std.specs.FinSet as sets;
 ghost use Rattle.bstr.specs.Utf8.{decoded};
@@ -8,7 +8,7 @@ ghost use Rattle.spanner_model.specs.View.{tree_of};
 ghost use Rattle.formula_parser.specs.Sets.{Bytes};
 ghost use Rattle.formula_parser.specs.Alphabet.{of_characters, dot_set};
 ghost use Rattle.formula_parser.specs.CharSets.{AreAllCharacters, property_set};
-ghost use Rattle.formula_parser.specs.Escapes.{Elem, elem_set};
+ghost use Rattle.formula_parser.specs.Escapes.{Elem, elem_set, hex_value};
 ghost use Rattle.formula_parser.specs.CharEscapes.{hex_after};
 ghost use Rattle.formula_parser.specs.CharView.{Holds, HoldsBelow, IsElemOf, IsElemToken, scalar_of};
 ghost use Rattle.formula_parser.specs.Dialect.{with_characters, AreTrees, braced_at, number_in, property_in, property_elem, narrow_at, char_escape_at, char_elem};
@@ -23,8 +23,7 @@ use crate::char_class::class_at;
 use crate::fault::FormulaFault;
 use crate::nest::Nest;
 use crate::reader::{Turn, unit};
-use crate::room::Room;
-use crate::tokens::{Elem as ByteElem, begins_with, escape_at, hex_value, name_run};
+use crate::tokens::{Elem as ByteElem, begins_with, escape_at, name_run};
 use span_core::{ByteSet, OutOfMemory};
 use spanner_model::Formula;
 use std::alloc::Global;
@@ -89,16 +88,25 @@ fn braced(text: &[u8]) -> Option<&[u8]>
     }
 }
 
+/// The value of a hexadecimal digit.
+#[tactic(auto, using(crate::proofs::HexLaws::digit_is, crate::proofs::HexLaws::no_digit_is))]
+fn hex_digit(c: u8) -> Option<u32>
+    ensures value { result ≡ hex_value c }
+    ensures small { IfSome result (λ v. v < 16) }
+{
+    char::from(c).to_digit(16)
+}
+
 /// The character whose number hexadecimal digits write.
 fn hex_character(digits: &[u8]) -> Option<char>
     ensures { result ≡ scalar_of (hex_after 0 digits.now) }
 {
     let mut value = 0u32;
     for digit in digits {
-        let Some(next) = hex_value(*digit) else {
+        let Some(next) = hex_digit(*digit) else {
             return None;
         };
-        value = 16 * value + u32::from(next);
+        value = 16 * value + next;
         if value >= 0x11_0000 {
             return None;
         }
@@ -201,20 +209,15 @@ pub(crate) fn wide_at(at: usize, text: &[u8]) -> Result<(CharElem, usize), Formu
     }
 }
 
-/// The tree of a set, for which room is taken; None where no character is in the set.
-pub(crate) fn tree(
-    alloc: Global,
-    room: &mut Room,
-    set: &CharSet,
-) -> Result<Option<Formula>, OutOfMemory>
+/// The tree of a set, and None where no character is in the set.
+pub(crate) fn tree(alloc: Global, set: &CharSet) -> Result<Option<Formula>, OutOfMemory>
     ensures { IfOk result (λ found. (trees : Bytes → Tree) → AreTrees trees → (s : Bytes) → Holds set.now s → AreAllCharacters s
         → MatchOption found (s ≡ sets.empty) (λ f. ¬ (s ≡ sets.empty) × (tree_of f ≡ trees s))) }
 {
-    let ranges = set.ranges();
+    let _ranges = set.ranges();
     if set.is_empty() {
         return Ok(None);
     }
-    room.take(ranges.len())?;
     Ok(Some(set.tree(alloc)?))
 }
 
@@ -225,7 +228,7 @@ pub(crate) fn dot(alloc: Global, nest: &mut Nest) -> Result<Turn, FormulaFault>
 {
     let newline = single(alloc, '\n')?;
     let others = newline.negation(alloc)?;
-    match tree(alloc, &mut nest.room, &others)? {
+    match tree(alloc, &others)? {
         Some(formula) => unit(formula, 1, nest),
         None => Err(FormulaFault::OutOfMemory),
     }
@@ -253,7 +256,7 @@ pub(crate) fn escape(
 {
     let (elem, len) = elem_at(alloc, at, others)?;
     let set = set_of(alloc, elem)?;
-    match tree(alloc, &mut nest.room, &set)? {
+    match tree(alloc, &set)? {
         Some(formula) => unit(formula, len, nest),
         None => Err(FormulaFault::BadRange { at }),
     }
@@ -270,7 +273,7 @@ pub(crate) fn class(
     ensures { (trees : Bytes → Tree) → AreTrees trees
         → IsStep result (classes (with_characters trees) (class_at (with_characters trees) at others.now) (nest_of nest.old)) (nest_of nest.new) }
 {
-    match class_at(alloc, &mut nest.room, at, others) {
+    match class_at(alloc, at, others) {
         Ok((formula, len)) => unit(formula, len, nest),
         Err(fault) => Err(fault),
     }

@@ -14,7 +14,6 @@ pub use laws::{
     no_text_has_two_trees, texts_without_the_sign_stay,
 };
 pub use reader::read_atom;
-pub use room::{MOST_RANGES, Room};
 
 mod alphabet;
 mod char_class;
@@ -24,7 +23,6 @@ mod fault;
 mod laws;
 mod nest;
 mod reader;
-mod room;
 mod sign;
 mod tokens;
 

@@ -8,7 +8,6 @@ ghost use Rattle.formula_parser.specs.Nest.{held, whole_seq, whole_alt, whole, o
 ghost use Rattle.formula_parser.specs.View.{last_of, nest_of, opener_of};
 
 use crate::fault::FormulaFault;
-use crate::room::Room;
 use span_core::{Name, OutOfMemory};
 use spanner_model::{Formula, Parts};
 use std::alloc::Global;
@@ -44,8 +43,6 @@ pub(crate) struct Nest {
     pub(crate) below: Vec<Frame>,
     pub(crate) top: Frame,
     pub(crate) last: Last,
-    /// For formulas of sets of characters.
-    pub(crate) room: Room,
 }
 
 pub(crate) fn put(parts: &mut Parts, part: Formula) -> Result<(), OutOfMemory>
@@ -97,7 +94,7 @@ fn alt_of(arms: Parts, seq: Formula) -> Result<Formula, OutOfMemory>
 }
 
 impl Nest {
-    pub(crate) fn new(alloc: Global, place: usize, room: Room) -> Nest
+    pub(crate) fn new(alloc: Global, place: usize) -> Nest
         ensures { nest_of result ≡ outermost place }
     {
         Nest {
@@ -109,7 +106,6 @@ impl Nest {
                 parts: Parts::new(alloc),
             },
             last: Last::Start,
-            room,
         }
     }
 

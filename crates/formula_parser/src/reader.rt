@@ -24,7 +24,6 @@ use crate::alphabet::Alphabet;
 use crate::class::class_at;
 use crate::fault::FormulaFault;
 use crate::nest::{Last, Nest, Opener, put};
-use crate::room::Room;
 use crate::sign::sign_len;
 use crate::tokens::{begins_with, bounds_at, escape_at, head_at, tails};
 use crate::{MOST_OPEN, characters};
@@ -454,7 +453,6 @@ fn read_over(
     alphabet: Alphabet,
     text: &[u8],
     from: usize,
-    room: &mut Room,
 ) -> Result<(Atom, usize), FormulaFault>
     requires slash { slice_get text.now from ≡ Some 47 }
     ensures found { IfOk result (λ x. IsAtomOver (alphabet_seen alphabet) text.now from (atom_of x.0, x.1)) }
@@ -462,10 +460,8 @@ fn read_over(
     ensures built { IfOk result (λ x. IsWellBuilt (tree_of x.0.formula)) }
     ensures within { IfOk result (λ x. x.1 ≤ length text.now) }
 {
-    let mut nest = Nest::new(alloc, from, *room);
-    let read = read_nest(alloc, alphabet, text, from, &mut nest);
-    *room = nest.room;
-    read
+    let mut nest = Nest::new(alloc, from);
+    read_nest(alloc, alphabet, text, from, &mut nest)
 }
 
 /// The bytes after the slash at `from`, so many of them.
@@ -483,13 +479,11 @@ fn between(text: &[u8], from: usize, len: usize) -> &[u8]
 /// characters.
 ///
 /// Places count bytes from 0. The formula need not be sequential. But for the trees of sets of characters, the
-/// time is linear in the text's length. Those trees take from `room`. Where it is too small for the next one, the
-/// answer is want of memory, and what follows is not read.
+/// time is linear in the text's length.
 pub fn read_atom(
     alloc: Global,
     text: &[u8],
     from: usize,
-    room: &mut Room,
 ) -> Result<(Atom, usize), FormulaFault>
     requires slash { slice_get text.now from ≡ Some 47 }
     requires short { length text.now ≤ 65536 }
@@ -502,14 +496,14 @@ pub fn read_atom(
     ensures built { IfOk result (λ x. IsWellBuilt (tree_of x.0.formula)) }
 {
     let Some(len) = sign_len(text, from) else {
-        return read_over(alloc, Alphabet::Bytes, text, from, room);
+        return read_over(alloc, Alphabet::Bytes, text, from);
     };
     if let Err(error) = str::from_utf8(between(text, from, len)) {
         return Err(FormulaFault::NotUtf8 {
             at: from + 1 + error.valid_up_to(),
         });
     }
-    match read_over(alloc, Alphabet::Characters, text, from, room) {
+    match read_over(alloc, Alphabet::Characters, text, from) {
         Ok((atom, place)) => Ok((atom, place + 1)),
         Err(fault) => Err(fault),
     }

@@ -9,11 +9,11 @@ ghost use Rattle.std.specs.Option.{option_map};
 ghost use Rattle.span_core.specs.Names.{is_name_byte};
 ghost use Rattle.formula_parser.specs.Sets.{digits, word_bytes, spaces};
 ghost use Rattle.formula_parser.specs.Runs.{begins_with};
-ghost use Rattle.formula_parser.specs.Escapes.{elem_set, hex_value, is_punctuation};
+ghost use Rattle.formula_parser.specs.Escapes.{byte, elem_set, hex_value, is_punctuation};
 ghost use Rattle.formula_parser.specs.Names.{is_word};
 ghost use Rattle.formula_parser.specs.Repeats.{is_digit, value_after};
 ghost use Rattle.formula_parser.specs.Spells.{is_tail};
-ghost use Rattle.formula_parser.specs.Tokens.{escape_at, head_at, number_at, between_at, most_at, rest_at, bounds_at, tails};
+ghost use Rattle.formula_parser.specs.Tokens.{escape_at, hex_byte, head_at, number_at, between_at, most_at, rest_at, bounds_at, tails};
 ghost use Rattle.formula_parser.specs.View.{elem_of, escape_of, bounds_of};
 
 use span_core::{ByteSet, is_name_byte, is_name_start};
@@ -65,16 +65,14 @@ fn spaces() -> ByteSet
     ByteSet::range(b'\t', b'\r').union(&ByteSet::single(b' '))
 }
 
-/// The value of a hexadecimal digit.
-pub(crate) fn hex_value(c: u8) -> Option<u8>
-    ensures value { result ≡ hex_value c }
-    ensures small { IfSome result (λ v. v < 16) }
+/// The byte that two hexadecimal digits write.
+fn hex_byte(high: u8, low: u8) -> Option<u8>
+    ensures { option_map (λ b. (byte b, 4)) result ≡ hex_byte (hex_value high) (hex_value low) }
 {
-    match c {
-        b'0'..=b'9' => Some(c - b'0'),
-        b'a'..=b'f' => Some(c - 87),
-        b'A'..=b'F' => Some(c - 55),
-        _ => None,
+    let mut bytes = [0u8];
+    match hex::decode_to_slice([high, low], &mut bytes) {
+        Ok(()) => Some(bytes[0]),
+        Err(_) => None,
     }
 }
 
@@ -95,11 +93,7 @@ pub(crate) fn escape_at(text: &[u8]) -> Option<(Elem, usize)>
         [b'n', ..] => Some((Elem::Byte(b'\n'), 2)),
         [b't', ..] => Some((Elem::Byte(b'\t'), 2)),
         [b'r', ..] => Some((Elem::Byte(b'\r'), 2)),
-        [b'x', h, l, ..] => {
-            let high = hex_value(*h)?;
-            let low = hex_value(*l)?;
-            Some((Elem::Byte(16 * high + low), 4))
-        }
+        [b'x', high, low, ..] => Some((Elem::Byte(hex_byte(*high, *low)?), 4)),
         [c, ..] if is_punctuation(*c) => Some((Elem::Byte(*c), 2)),
         _ => None,
     }

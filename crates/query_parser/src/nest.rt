@@ -11,7 +11,6 @@ ghost use Rattle.query_parser.specs.Nest.{reading_of, outermost, empty_frame, wh
 ghost use Rattle.query_parser.specs.View.{frame_of, last_of, nest_of};
 
 use crate::named::Named;
-use formula_parser::Room;
 use span_core::{Name, OutOfMemory, VarSet};
 use spanner_model::{Expr, Exprs};
 use std::alloc::Global;
@@ -61,8 +60,6 @@ pub(crate) struct Nest {
     pub(crate) many: bool,
     /// The signs `minus` so far.
     pub(crate) minuses: usize,
-    /// For formulas of sets of characters.
-    pub(crate) room: Room,
 }
 
 fn put(parts: &mut Exprs, part: Expr) -> Result<(), OutOfMemory>
@@ -175,7 +172,6 @@ impl Nest {
             names: VarSet::empty(),
             many: false,
             minuses: 0,
-            room: Room::new(),
         }
     }
 

@@ -318,7 +318,7 @@ fn atom(alloc: Global, text: &[u8], at: usize, nest: &mut Nest) -> Result<usize,
     requires short { length text.now ≤ MOST_TEXT_BYTES }
     ensures { ReadAtom result text.now at (nest_of nest.old) (nest_of nest.new) }
 {
-    match read_atom(alloc, text, at, &mut nest.room) {
+    match read_atom(alloc, text, at) {
         Ok((atom, after)) => {
             nest.last = Last::Unit(Expr::Atom(atom));
             Ok(after - at)
