@@ -89,7 +89,7 @@ fn braced(text: &[u8]) -> Option<&[u8]>
 }
 
 /// The value of a hexadecimal digit.
-#[tactic(auto, using(crate::proofs::HexLaws::digit_is, crate::proofs::HexLaws::no_digit_is))]
+#[tactic(auto, using(crate::proofs::HexLaws::digit_is))]
 fn hex_digit(c: u8) -> Option<u32>
     ensures value { result ≡ hex_value c }
     ensures small { IfSome result (λ v. v < 16) }

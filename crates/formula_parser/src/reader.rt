@@ -480,11 +480,7 @@ fn between(text: &[u8], from: usize, len: usize) -> &[u8]
 ///
 /// Places count bytes from 0. The formula need not be sequential. But for the trees of sets of characters, the
 /// time is linear in the text's length.
-pub fn read_atom(
-    alloc: Global,
-    text: &[u8],
-    from: usize,
-) -> Result<(Atom, usize), FormulaFault>
+pub fn read_atom(alloc: Global, text: &[u8], from: usize) -> Result<(Atom, usize), FormulaFault>
     requires slash { slice_get text.now from ≡ Some 47 }
     requires short { length text.now ≤ 65536 }
     // What is read is spelled so.
