@@ -38,10 +38,6 @@ def two(count):
     return '/^%s$/ join /^%s$/' % (optional(count), optional(count, 'w'))
 
 
-def letters_in_lets(count):
-    return ''.join('let x%d = /^(%s)$/u; ' % (number, '\\p{Lu}a' * 133) for number in range(count)) + '/!x{a}/'
-
-
 def unchanged(count):
     return '/^(a?){%d}(a?){%d}$/' % (count, count)
 
@@ -74,8 +70,6 @@ GUARDS = [  # a guard, a text, and the query; T15 and U15 are fifteen optional c
     ('ends of an atom', '`/^(a?){250}T15$/`', '/^(a?){250}%s$/' % optional(15)),
     ('ends of a join', '`/^T11$/ join /^U11$/`', two(11)),
     ('ends of a join', '`/^T12$/ join /^U12$/`', two(12)),
-    ('sets of characters', '22 lets of `/^(..)$/u`, each with `\\p{Lu}a` 133 times, then `/!x{a}/`', letters_in_lets(22)),
-    ('sets of characters', '23 of them', letters_in_lets(23)),
 ]
 
 
