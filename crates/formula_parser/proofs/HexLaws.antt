@@ -5,7 +5,7 @@ use Rattle.std.specs.Prelude.{MatchResult, SomeIff, slice_index_or}
 use Rattle.std.specs.Char.{digit_value}
 use Rattle.hex.specs.declared.error.FromHexError.{FromHexError}
 use Rattle.hex.specs.Hex.{hex_digit_value, digit_or_error, decode_sized, decode_pairs, ◌>>=◌}
-use Rattle.formula_parser.specs.Escapes.{Elem, byte, hex_value}
+use Rattle.formula_parser.specs.Escapes.{byte, hex_value}
 use Rattle.formula_parser.specs.Tokens.{hex_byte}
 
 digit_some : (c : ℕ) → digit_value c < 16 → Some (digit_value c) ≡ hex_value c
