@@ -131,14 +131,14 @@ one_tried front rest new old row is next = is ∙ ap (λ (xs : List SpanRow). fr
 next_unit : (n unit : ℕ) → (n + 1) * unit ≡ n * unit + unit
 next_unit n unit = omega arith
 
-steps_by : (old now next after v w tests n m : ℕ) → m ≡ n + 1 → w ≡ v → now ≤ old + n * (4 * v + 4 + tests) → next ≤ now + 2 * w → after ≤ next + tests →
-    after ≤ old + m * (4 * v + 4 + tests)
+steps_by : (old now next after v w tests n m : ℕ) → m ≡ n + 1 → w ≡ v → now ≤ old + n * (2 * v + tests) → next ≤ now + 2 * w → after ≤ next + tests →
+    after ≤ old + m * (2 * v + tests)
 steps_by old now next after v w tests n m e same inv further asked =
-    let unit : m * (4 * v + 4 + tests) ≡ n * (4 * v + 4 + tests) + (4 * v + 4 + tests) = ap (λ (k : ℕ). k * (4 * v + 4 + tests)) e ∙ next_unit n (4 * v + 4 + tests) in
+    let unit : m * (2 * v + tests) ≡ n * (2 * v + tests) + (2 * v + tests) = ap (λ (k : ℕ). k * (2 * v + tests)) e ∙ next_unit n (2 * v + tests) in
     omega (arith, unit, inv, further, asked, same)
 
-pub steps_more : (old now next after v w tests : ℕ) (front : List SpanRow) (row : SpanRow) → w ≡ v → now ≤ old + length front * (4 * v + 4 + tests) → next ≤ now + 2 * w → after ≤ next + tests →
-    after ≤ old + length (front ++ row ∷ []) * (4 * v + 4 + tests)
+pub steps_more : (old now next after v w tests : ℕ) (front : List SpanRow) (row : SpanRow) → w ≡ v → now ≤ old + length front * (2 * v + tests) → next ≤ now + 2 * w → after ≤ next + tests →
+    after ≤ old + length (front ++ row ∷ []) * (2 * v + tests)
 steps_more old now next after v w tests front row same inv further asked =
     steps_by old now next after v w tests (length front) (length (front ++ row ∷ [])) (length_push front row) same inv further asked
 

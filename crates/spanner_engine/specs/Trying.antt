@@ -11,7 +11,7 @@ pub record IsNextPassing (checks : List Check) (names : List VarName) (d : List 
   pub fail : passing checks names d tried ≡ []
   pub passed : passes checks names d row ≡ true
 
--- to try so many answers of v variables under so many tests: for each four steps for each variable, four more, and one for each test; and
--- as many without the tests where none was found
+-- to try so many answers of v variables under so many tests: for each two steps for each variable, and one for each test; and as many
+-- without the tests where none was found
 abbrev pub trying_steps : ℕ → ℕ → ℕ → Bool → ℕ
-trying_steps v tests tried found = tried * (4 * v + 4 + tests) + (if found then 0 else 4 * v + 4)
+trying_steps v tests tried found = tried * (2 * v + tests) + (if found then 0 else 2 * v)

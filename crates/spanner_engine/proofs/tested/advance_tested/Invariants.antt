@@ -8,7 +8,7 @@ invariant-loop-answers g l = record {
   variables : l.answers.variables ≡ l.fn.answers.variables;
   tried : (front : List SpanRow) × (l.fn.answers.rest ≡ front ++ l.answers.rest)
       × (passing (checks_of (known l.tests g.J.Judge.judges) l.tested.asked) l.vars l.doc front ≡ [])
-      × (l.steps ≤ l.fn.steps + length front * (4 * l.fn.answers.variables + 4 + length l.tested.asked));
+      × (l.steps ≤ l.fn.steps + length front * (2 * l.fn.answers.variables + length l.tested.asked));
 }
 
 abbrev pub decreases-loop-answers : goal.decreases-loop-answers
