@@ -1,12 +1,14 @@
 //! Queries that own what they were compiled to.
-ghost use Rattle.std.specs.Prelude.{◌≡◌, ℕ, ◌+◌, ◌^◌, ◌≤◌, Bool, length, IfErr, IfOk, OnOk};
+ghost use Rattle.std.specs.Prelude.{◌≡◌, ℕ, ◌+◌, ◌^◌, ◌≤◌, ◌⊎◌, Bool, length, IfErr, IfOk, IsErrOf, OnOk};
 ghost use Rattle.std.specs.Option.{IfSome, option_copied};
 ghost use Rattle.spanner_model.specs.Answers.{AreResultNames};
 ghost use Rattle.query_automaton.specs.Parts.{AtomsAreSmall};
-ghost use Rattle.spanner_engine.specs.Begun.{AreRead, IsBeginFault, begin_steps, counted, row_kept};
+ghost use Rattle.spanner_engine.specs.Begun.{AreRead, IsBeginFault, IsPast, IsReadWithin, KeepsOther, begin_steps, counted, row_kept};
 ghost use Rattle.spanner_engine.specs.Caching.{IsCacheOf, rebuild};
+ghost use Rattle.spanner_engine.specs.Filtering.{AreAtomsWithin};
 ghost use Rattle.spanner_engine.specs.Fitting.{AreLast};
 ghost use Rattle.spanner_engine.specs.Left.{AreLeft};
+ghost use Rattle.spanner_engine.specs.declared.beginning.BeginFault.TheVariants.{CursorOther, CursorPlace};
 ghost use Rattle.spanner_model.specs.Passing.{AreKnown, known};
 ghost use Rattle.query_parser.specs.Binding.{IsOnlyTested};
 ghost use Rattle.spanner_library.specs.Library.{IsRefused, tree};
@@ -127,8 +129,14 @@ impl<J: Judge> Prepared<J> {
             (row_kept (option_copied after.entry)) r.rest) }
         ensures last { IfOk result (λ r. AreLast (tree self.now).query document.now self.now.names r.rest) }
         ensures variables { IfOk result (λ r. r.variables ≡ length self.now.names) }
+        ensures other { (kept : ℕ) → KeepsOther (length document.now) (option_copied after.entry) kept →
+            IsErrOf result (CursorOther kept (length document.now)) }
+        ensures place { IsPast (length document.now) (option_copied after.entry) → IsErrOf result CursorPlace }
+        ensures still { (kept found : ℕ) → IsErrOf result CursorPlace ⊎ IsErrOf result (CursorOther kept found) → steps.new ≡ steps.old }
         ensures fault { IfErr result (IsBeginFault (tree self.now).query document.now options.filter
             (option_copied after.entry) options.limit) }
+        ensures weighs { OnOk result (IsReadWithin self.now.graph (tree self.now).query document.now options.filter options.limit) }
+        ensures atoms { OnOk result (AreAtomsWithin (tree self.now).query document.now options.filter options.limit) }
         ensures steps { (K : ℕ → Bool) → AreRead options.filter (tree self.now).query document.now K →
             steps.new ≤ steps.old + begin_steps options.filter (tree self.now).query document.now K (row_kept (option_copied after.entry)) }
     {
@@ -168,8 +176,14 @@ impl<J: Judge> Prepared<J> {
             (row_kept (option_copied after.entry)) r.rest) }
         ensures last { IfOk result (λ r. AreLast (tree self.now).query document.now self.now.names r.rest) }
         ensures variables { IfOk result (λ r. r.variables ≡ length self.now.names) }
+        ensures other { (kept : ℕ) → KeepsOther (length document.now) (option_copied after.entry) kept →
+            IsErrOf result (CursorOther kept (length document.now)) }
+        ensures place { IsPast (length document.now) (option_copied after.entry) → IsErrOf result CursorPlace }
+        ensures still { (kept found : ℕ) → IsErrOf result CursorPlace ⊎ IsErrOf result (CursorOther kept found) → steps.new ≡ steps.old }
         ensures fault { IfErr result (IsBeginFault (tree self.now).query document.now options.filter
             (option_copied after.entry) options.limit) }
+        ensures weighs { OnOk result (IsReadWithin self.now.graph (tree self.now).query document.now options.filter options.limit) }
+        ensures atoms { OnOk result (AreAtomsWithin (tree self.now).query document.now options.filter options.limit) }
         ensures steps { (K : ℕ → Bool) → AreRead options.filter (tree self.now).query document.now K →
             steps.new ≤ steps.old + rebuild cache.old.kept (counted (tree self.now).query) document.now K
             + begin_steps options.filter (tree self.now).query document.now K (row_kept (option_copied after.entry)) }
