@@ -118,6 +118,9 @@ def again(crates_text):
     names = crates.again(crates_text.split())
     text = 'Proved again: %d of %d crates, some %.0f of %.0f minutes of proof.' % (
         len(names), len(crates.on), times.proof(names), times.proof(crates.on))
+    new = [name for name in names if name not in times.by]
+    if new:
+        text = text[:-1] + ' (%s not measured yet).' % listed(new)
     others = [name for name in crates.on if name not in names]
     if len(others) < len(names):
         return wrapped(text + (' All but %s.' % listed(others) if others else ' All of them.'))
@@ -211,7 +214,7 @@ def figures(name):
 def gate_sums(_):
     """What a gate takes in all, and its longest chain."""
     crates, times = Crates(), Times()
-    sums = [sum(cells[kind] for cells in times.by.values()) for kind in range(3)]
+    sums = [sum(cells[kind] for name, cells in times.by.items() if name in crates.on) for kind in range(3)]
     chain, names = times.chain(crates)
     rows = [('proofs, tests, edits', '%.0f, %.0f, %.0f' % tuple(sums)), ('in all', '%.0f' % sum(sums)),
             ('proofs of the program\'s crates', '%.0f' % times.proof(crates.program())),
