@@ -41,14 +41,14 @@ _rematch() {
 _rematch_to_options=$(printf '%s ' \
     -e -q --words -o --quiet --filter --max-table --jobs -n --var --columns --texts --context --characters --sort --sample \
     --sentence --color -C -v --line-numbers --lines --forward --iupac --sorted --strand-once --frames --most-rows --expanded \
-    --from-start --idle --version --help)
+    --from-start --state --idle --version --help)
 
 _rematch_to() {
     local word=${COMP_WORDS[COMP_CWORD]} before=${COMP_WORDS[COMP_CWORD-1]}
     COMPREPLY=()
     case $before in
         -q) _rematch_files -X '!*.query'; return ;;
-        -o|--words) _rematch_files; return ;;
+        -o|--words|--state) _rematch_files; return ;;
         --sort) _rematch_words 'left right word'; return ;;
         --color) _rematch_words 'auto always never'; return ;;
         -e|--max-table|--jobs|-n|--var|--columns|--context|--sample|-C|--most-rows|--idle) return ;;

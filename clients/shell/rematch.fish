@@ -17,6 +17,7 @@ complete -c rematch-to -n "not __fish_seen_subcommand_from $forms" -f -a "$forms
 complete -c rematch-to -n 'not __fish_contains_opt -s e -s q' -s e -x -d 'the query'
 complete -c rematch-to -n 'not __fish_contains_opt -s e -s q' -s q -r -F -d 'a file that holds the query'
 complete -c rematch-to -s o -r -F -d 'write there'
+complete -c rematch-to -l state -r -F -d 'csv, tsv, follow: the rows of what has come since the last run'
 complete -c rematch-to -l words -r -F -d 'csv, tsv, kwic, lines, freq, count, any, html: the words of this file in place of a query'
 complete -c rematch-to -l quiet -d 'no advice on the query and none on the documents'
 complete -c rematch-to -l filter -d 'read only where the query touches a document'

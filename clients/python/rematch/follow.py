@@ -113,6 +113,12 @@ class Followed:
         self._settled = first + (self._back(whole, self.lines) if self.waits else whole)
         self._given = {self._moved(row) for row in self.query.rows(self.kept)}
 
+    def go_on(self, file: IO[bytes], place: int) -> None:
+        """Goes on behind the lines before a place of the file, which were followed in another run: rows that waited there are given."""
+        self.pass_over(file, place)
+        if self.waits:
+            self._given = {row for row in self._given if first_place(row) < self._settled}
+
     def _nothing(self) -> Step:
         return Step(Window(b'', self.begins, self.line), iter(()))
 

@@ -55,6 +55,7 @@ class Command:
         self.name: Optional[str] = None  # of the document that is read
         self.has_failed = False  # whether a document could not be read, where there are several
         self.status = 0
+        self.afterwards: List[Callable[[], None]] = []  # what is done once the output is whole
         self.expansion: Expanded = expanded(read_source(given))
         if given.form == 'check' and given.expanded:
             return
@@ -339,8 +340,13 @@ class Command:
         try:
             if self.given.form in others:
                 others[self.given.form]()
+                return
+            form = DOCUMENT_FORMS[self.given.form](self)
+            if self.given.state is None:
+                self.documents(form)
             else:
-                self.documents(DOCUMENT_FORMS[self.given.form](self))
+                from .state import new_lines
+                new_lines(self, form.table)  # type: ignore[attr-defined]
         except (RematchError, NoReach) as fault:
             if getattr(fault, 'filename', None) is None:
                 fault.filename = self.name  # type: ignore[union-attr]
@@ -365,6 +371,8 @@ def main(words: Optional[Iterable[str]] = None) -> int:
             to_file = given.out is not None and not os.path.isdir(given.out)
             command.out = stack.enter_context(output(given.out if to_file else None, comes_at_once=given.form == 'follow'))
             command.run()
+        for act in command.afterwards:
+            act()
         found.append(1 if command.has_failed else command.status)
 
     return run_told(run) or (found[0] if found else 0)

@@ -14,7 +14,7 @@ if TYPE_CHECKING:
     from .convert import Command
     from .tables import Table
 
-__all__ = ['follow']
+__all__ = ['follow', 'lines_of']
 
 _EVERY = 0.1  # seconds between two looks at the file
 _HEAD = 1 << 20  # bytes of the file's beginning that are looked at
@@ -44,8 +44,8 @@ def follow(command: 'Command') -> None:
     from .tables import Table
     from .forms import layout_of, refuse
     from .small import SmallDocuments
-    if len(command.names) != 1:
-        refuse('follow takes one file: start it once for each')
+    if len(command.names) != 1 and command.given.state is None:
+        refuse('follow takes one file: start it once for each, or give --state FILE')
     if command.given.var is not None and command.given.context is None:
         refuse('--var is for --context here: give --context N too')
     if command.given.characters:
@@ -54,6 +54,10 @@ def follow(command: 'Command') -> None:
         table = Table(command.query, layout_of(command.given))
     except ValueError as reason:
         refuse(str(reason))
+    if command.given.state is not None:
+        from .state import follow_since
+        follow_since(command, table)
+        return
     state = Followed(command.query, command.names[0])
     if not command.given.filter and command.given.max_table is None:
         state.query = SmallDocuments(command.query.text)
@@ -62,7 +66,7 @@ def follow(command: 'Command') -> None:
             if step is None:
                 command.out.write(table.head())
             else:
-                command.out.writelines(_lines(table, step))
+                command.out.writelines(lines_of(table, step))
             command.out.flush()
     finally:
         if isinstance(state.query, SmallDocuments):
@@ -89,7 +93,7 @@ def _steps(command: 'Command', state: Followed) -> Iterator[Optional[Step]]:
         file.close()
 
 
-def _lines(table: 'Table', step: Step) -> Iterator[str]:
+def lines_of(table: 'Table', step: Step) -> Iterator[str]:
     """A line of the table for each row of a step."""
     window, rows = step
     at = window.begins

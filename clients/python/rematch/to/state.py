@@ -151,7 +151,7 @@ class Since:
     def _begun(self, file: IO[bytes], start: int) -> Followed:
         state = Followed(self.query, self.name)
         if start:
-            state.pass_over(file, start)
+            state.go_on(file, start)
             state.line += lines_before(file, state.begins)
         return state
 
@@ -204,7 +204,7 @@ def new_lines(command: 'Command', table: 'Table') -> None:
     """Writes the rows since the last run, with the head of the table before the first, and then the places."""
     places = _places_of(command)
     _write(command, table, places, is_first=True)
-    _write_places(command.given.state, places)
+    command.afterwards.append(lambda: _write_places(command.given.state, places))
 
 
 def _write(command: 'Command', table: 'Table', places: Dict[str, Place], *, is_first: bool) -> bool:
@@ -222,6 +222,8 @@ def _write(command: 'Command', table: 'Table', places: Dict[str, Place], *, is_f
 def follow_since(command: 'Command', table: 'Table') -> None:
     """Writes the rows since the last run, and then those that come, and the places each time; it ends where for --idle seconds nothing came."""
     places = _places_of(command)
+    if not command.given.from_start:
+        _add_ends(command, places)
     heard, is_first, seen = time.monotonic(), True, None
     while True:
         sizes = [_size(name) for name in command.names]
@@ -234,6 +236,14 @@ def follow_since(command: 'Command', table: 'Table') -> None:
         if command.given.idle is not None and time.monotonic() - heard >= command.given.idle:
             return
         time.sleep(_EVERY)
+
+
+def _add_ends(command: 'Command', places: Dict[str, Place]) -> None:
+    """The places of files that no run has read: their ends, since only what comes is asked for."""
+    for name in command.names:
+        if os.path.abspath(name) not in places:
+            with command.guarded(name):
+                places[os.path.abspath(name)] = Since(command.query, name, None).place
 
 
 def _size(name: str) -> Any:

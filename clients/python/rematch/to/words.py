@@ -134,6 +134,7 @@ _OPTIONS = (
     _option('--most-rows', ('html',), type=int, metavar='N', help='rows of each document (5000)'),
     _option('--expanded', ('check',), action='store_true', help='the query as the program gets it, and nothing else'),
     _option('--from-start', ('follow',), action='store_true', help='the rows that are there already, too'),
+    _option('--state', _TABLES, metavar='FILE', help='the rows of what has come to the documents since the last run; the places are kept in FILE'),
     _option('--idle', ('follow',), type=float, metavar='SECONDS', help='end where nothing has come for so long'),
     _option('--version', (), action='store_true', help='which rematch-to this is, and which program it runs'),
 )
@@ -237,6 +238,10 @@ def _refuse_numbers(parser: _Parser, given: Words) -> None:
                                ('--most-rows', given.most_rows, 1), ('--idle', given.idle, 0)):
         if value is not None and value < least:
             parser.error(f'{name} is {least} or more, not {value}')
+    if given.state is not None:
+        for name, value in (('-n', given.most), ('--jobs', given.jobs), ('--characters', given.characters), ('--sentence', given.sentence)):
+            if value:
+                parser.error(f'--state writes all rows since the last run, by bytes: drop {name}')
     if given.max_table is not None and not 1 <= given.max_table <= 100_000_000:
         parser.error(f'--max-table is 1 to 100000000, not {given.max_table}')
     if given.form == 'kwic' and given.columns is not None and not (given.columns.isdigit() and int(given.columns)):
