@@ -22,8 +22,8 @@ FLAGS = ['-static-pie', '-Wl,--gc-sections', '-Wl,-z,now', '-Wl,-z,relro', '-Wl,
 
 
 def is_here():
-    """Whether a static program is released."""
-    return os.path.isfile(PACKED) or os.path.isfile(STATIC.path)
+    """Whether a static program is released, or could be linked of what was built here."""
+    return os.path.isfile(PACKED) or os.path.isfile(STATIC.path) or (is_built() and not missing())
 
 
 def is_built():
@@ -95,6 +95,9 @@ def program_here():
 
 def faults(beside):
     """What is wrong with the released static program, beside what was built here, in lines."""
+    if not os.path.isfile(STATIC.path):
+        yield 'no static program is released, and it can be linked here: release/update does'
+        return
     values, program = STATIC.named(), program_here()
     yield from STATIC.faults(values, read(PACKED))
     if values['beside'] != beside:

@@ -85,6 +85,8 @@ class Fish(Folder):
         self.assertLessEqual({*FORMS, *OTHER_FORMS}, set(self.complete('rematch-to ')))
         self.assertLessEqual({option for option in options_to() if option.startswith('--')}, set(self.complete('rematch-to csv --')))
         self.assertIn('failed.query', self.complete('rematch -q fai'))
+        self.assertLessEqual({'--port', '--open', '--help'}, set(self.complete('rematch-play --')))
+        self.assertLessEqual({'--seconds', '--version', '--help'}, set(self.complete('rematch-serve --')))
 
 
 class Zsh(Folder):
@@ -115,7 +117,8 @@ class Zsh(Folder):
     @needs('zsh')
     def test_it(self):
         self.assertEqual(run(['zsh', '-n', os.path.join(SHELL, '_rematch')]).stdout, '')
-        for line, words in (('rematch -f ', ['spans', 'table', 'json']), ('rematch -', options())):
+        for line, words in (('rematch -f ', ['spans', 'table', 'json']), ('rematch -', options()),
+                            ('rematch-play -', ['-e', '-q', '--port', '--open']), ('rematch-serve -', ['--seconds', '--version'])):
             shown = self.complete(line, words)
             for word in words:
                 self.assertIn(word, shown)
