@@ -8,7 +8,7 @@ from .sets import WORD
 from .tree import (Atom, Capture, Choice, Concatenation, Formula, Group, Join, Minus, Name, One, Query, Repeat, captures_of, expressions_of, nodes_of,
                    ones_of)
 
-__all__ = ['Advice', 'advise', 'is_of_rows']
+__all__ = ['Advice', 'advise', 'is_of_ends', 'is_of_rows']
 
 _NO_CAPTURE = 'there is no capture, so the answer is one row () or none: put !name{..} around what is wanted'
 
@@ -48,13 +48,18 @@ def advise(text: Union[str, bytes]) -> List[Advice]:
     return found
 
 
+def is_of_ends(advice: Advice) -> bool:
+    """Whether it speaks of a repeat whose end is open, of which the rows themselves say more."""
+    return ' is a row too: ' in advice.message
+
+
 def is_of_rows(advice: Advice) -> bool:
     """Whether it speaks of how many rows there are, and not of whether there is one.
 
     >>> [is_of_rows(advice) for advice in advise(r'/!x{\\w+}[^\\w]/')]
     [True, False]
     """
-    return advice.message == _NO_CAPTURE or ' is a row too: ' in advice.message
+    return advice.message == _NO_CAPTURE or is_of_ends(advice)
 
 
 def _lets(query: Query, used: Set[bytes]) -> List[Advice]:

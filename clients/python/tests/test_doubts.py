@@ -38,10 +38,46 @@ class Doubts(Folder):
     def test_accents_as_signs_of_their_own(self):
         text = 'Bu\u0308rger b\n'.encode()
         self.assertRegex(self.told(text, '-e', r'/r!x{\p{L}+} /u'),
-                         r'^d: accents stand in it as signs of their own: .*\(NFC\)\n$')
+                         r'^d: accents are characters of their own in it: .*--normal nfc\n$')
         for query, data in (('/ !x{b}\\n/', text), ('/!x{u\u0308}/', text), (r'/!x{u\p{Mn}}/u', text),
                             ('/!x{ü}/', 'Bürger'.encode())):
             self.assertEqual(self.told(data, '-e', query), '', query)
+
+    def test_anchors_of_the_document(self):
+        """They are told once where a document has several lines, unless the query shows that this is meant."""
+        for query, is_told in (('/^!x{a}/', True), ('/!x{b}$/', True), ('/^!x{a}/m', False), (r'/^!x{a}\n/', False), ('/^!x{a}/ union /[^a]!x{a}/', False),
+                               ('/!x{a}/', False), (r'/^(.|\n)*!x{b}/', False), ('let w = /^!x{a}/; w', True)):
+            self.assertEqual('^ and $ are the start and the end' in self.told(b'a\nb\n', '-e', query), is_told, query)
+            self.assertNotIn('^ and $', self.told(b'a b\n', '-e', query), query)
+
+    def test_texts_that_end_wrongly(self):
+        for query, data, part in ((r'/p=!x{[^ \n]+}\n/', b'p=2\r\np=3\r\n', r'd: 2 texts of x end with a carriage return'),
+                                  (r'/p=!x{[^ \r\n]+}\r\n/', b'p=2\r\np=3\r\n', ''), (r'/"m": "!x{[^"]*}"/', rb'{"m": "a \" b"}', r'd: 1 text of x ends before an escaped quote'),
+                                  (r'/"m": "!x{([^"\\]|\\.)*}"/', rb'{"m": "a \" b"}', '')):
+            told = self.told(data, '-e', query)
+            self.assertEqual(part in told if part else told, True if part else '', (query, told))
+
+    def test_escapes_of_json(self):
+        for data, is_told in ((b'{"u": "bj\\u00f6rn"}\n', True), ('{"u": "björn"}\n'.encode(), False), (b'bj\\u00f6rn\n', False)):
+            self.assertEqual('as \\u escapes' in self.told(data, '-e', '/"u": "!x{björn}"/'), is_told, data)
+        self.assertEqual(self.told(b'{"u": "bj\\u00f6rn"}\n', '-e', '/"!x{u}"/'), '')
+
+    def test_rna(self):
+        rna = b'>r\nGGUAUAAUGG\n'
+        self.assertIn('U and no T', self.told(rna, '-e', '/!x{TATAAT}/', form='bed'))
+        self.assertEqual(self.told(rna, '-e', '/!x{UAUAAU}/', form='bed'), '')
+        self.assertEqual(self.told(b'>r\nTATAAT\n', '-e', '/!x{TATAAT}/', form='bed'), '')
+
+    def test_encodings(self):
+        """A text in another encoding or in another normal form, as the text in UTF-8 and in that form."""
+        latin = self.file('l', 'ein café\n'.encode('latin-1'))
+        self.assertEqual(asked('csv', '--texts', '--encoding', 'latin-1', '-e', '/!x{caf.}\\n/u', latin)[1], 'document,line,x\n%s,1,café\n' % latin)
+        self.assertEqual(asked('count', '--encoding', 'ascii', '-e', '/!x{c}/', latin)[::2], (5, '%s: no ascii at 7\n' % latin))
+        self.assertEqual(asked('count', '--encoding', 'nothing', '-e', '/!x{c}/', latin)[0], 2)
+        parted = self.file('n', 'cafe\u0301\n'.encode())
+        for query in ('/!x{café}/', '/!x{cafe\u0301}/'):
+            self.assertEqual(asked('count', '--normal', 'nfc', '-e', query, parted), (0, '1 %s\n' % parted, ''), query)
+        self.assertEqual(asked('count', '--quiet', '-e', '/!x{café}/', parted)[1], '0 %s\n' % parted)
 
     def test_packed_and_utf16_are_told_with_rows(self):
         for data, part in ((b'PK\x03\x04a', 'packed by zip.*unzip -p'), (b'\x28\xb5\x2f\xfda', 'packed by zstd.*zstdcat'),

@@ -123,7 +123,7 @@ class Small(Folder):
         self.assertEqual(children(), [])
         with mock.patch.object(rematch.program.Run, '_start', side_effect=rematch.program.Run._start) as runs:
             asked('count', '--max-table', '1000', '-e', '/!x{a}/', *names)
-        self.assertEqual(runs.call_count, 10)
+        self.assertEqual(runs.call_count, 11, 'the run that reads the query, and one for what the first rows say')
 
 
 if __name__ == '__main__':

@@ -121,9 +121,20 @@ class Advice(Folder):
         """Advice is told with rows too, a line each, and --quiet turns it off."""
         path = self.file('d', b'ab\n')
         for form in ('csv', 'tsv', 'kwic', 'freq', 'count', 'ann', 'html'):
-            status, out, told = asked(form, '-e', '/!x{b*}/', path)
-            self.assertEqual((status, told.split(': ')[0], told.count('\n')), (0, 'advice at 4', 2), form)
-            self.assertEqual(asked(form, '-e', '/!x{b*}/', path, '--quiet'), (0, out, ''), form)
+            query = '/a!x{b[:digit:]?}/'
+            status, out, told = asked(form, '-e', query, path)
+            self.assertEqual((status, told.split(': ')[0], told.count('\n')), (0, 'advice at 6', 1), form)
+            self.assertEqual(asked(form, '-e', query, path, '--quiet'), (0, out, ''), form)
+
+    def test_open_ends_are_told_of_the_rows(self):
+        """Where rows are read to their end they say it themselves; else the text of the query does."""
+        path = self.file('d', b's=200 s=37 \n')
+        for words in (('csv',), ('freq',), ('count',), ('kwic',)):
+            told = asked(*words, '-e', r'/s=!s{\d+}.*/', path)[2]
+            self.assertRegex(told, r'^.*/d: of s, 2 of 2 places have rows that begin alike and end apart, as 2, 20, 200: say what comes after it\n$', words)
+        self.assertIn('a repeat is last', asked('csv', '-n', '1', '-e', r'/s=!s{\d+}/', path)[2])
+        for query in (r'/s=!s{\d+} /', r'/!s{s=[^\n]*}\n/'):
+            self.assertEqual(asked('csv', '-e', query, path)[2], '', query)
 
     def test_what_is_of_rows_alone(self):
         """Where lines are asked for, or whether there is a row, it is no matter how many rows there are."""
@@ -141,8 +152,8 @@ class Advice(Folder):
         self.assertEqual(asked('count', '--lines', '-e', '/b/', path), (0, '2 %s\n' % path, ''))
 
     def test_the_place_is_that_of_the_text_as_it_was_written(self):
-        told = asked('csv', '-e', '# a comment\n/a !x{b*}/i', self.file('d', b''))[2]
-        self.assertEqual(told.split(':')[0], 'advice at 18')
+        told = asked('any', '-e', '# a comment\n/A !x{b[:digit:]}/', self.file('d', b''))[2]
+        self.assertEqual(told.split(':')[0], 'advice at 19')
 
 
 if __name__ == '__main__':

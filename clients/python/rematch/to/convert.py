@@ -8,27 +8,30 @@ from importlib import import_module
 from itertools import chain, islice
 from typing import Any, Callable, Dict, Iterable, Iterator, List, Optional, TextIO, Tuple
 
-from ..advice import Advice, advise, is_of_rows
+from ..advice import Advice, advise, is_of_ends, is_of_rows
 from ..documents import Document
-from ..faults import DocumentError, OutOfMemory, QueryError, RematchError, SizeError
+from ..faults import CursorError, DocumentError, OutOfMemory, QueryError, RematchError, SizeError
 from ..match import Row
 from ..pieces import NoReach, reach
 from ..query import Query
 from .command import line_of, run_told
 from .expand import Expanded, captured, expanded
-from .doubts import doubts_of, oddity_of
+from .doubts import doubts_of, has_anchors_alone, has_several_lines, oddity_of
+from .encodings import converted, in_form
 from .nucleotides import small_letter, with_iupac
 from .output import fault_of_output, output, written
 from .packed import Given
 from .progress import Progress
 from .forms import DOCUMENT_FORMS, Form, refuse
 from .jobs import Part, done_in_order, parts_of_documents, read_aside, written_aside
+from .row_doubts import MOST_SEEN, doubts_of_rows
 from .words import OTHER_FORMS, Words, read_words
 
 __all__ = ['Command', 'main']
 
 _MANY = 3  # documents, of which small ones are asked of one program
 _WHOLE = ('bed', 'gff', 'fasta', 'ann', 'follow', 'check', 'why')  # the forms that search otherwise
+_ROWS_SEEN = ('csv', 'tsv', 'freq', 'kwic', 'count', 'html')  # the forms of which the rows say what is of rows
 _HEAD = 1 << 20  # bytes of a document that are looked at for what may hide rows
 
 
@@ -56,7 +59,9 @@ class Command:
         self.has_failed = False  # whether a document could not be read, where there are several
         self.status = 0
         self.afterwards: List[Callable[[], None]] = []  # what is done once the output is whole
-        self.expansion: Expanded = expanded(read_source(given))
+        self.expansion: Expanded = expanded(in_form(read_source(given), given.normal))
+        self.has_anchors = has_anchors_alone(self.expansion.source)
+        self.has_told_of_rows = False
         if given.form == 'check' and given.expanded:
             return
         self.query = self.read_query()
@@ -122,8 +127,12 @@ class Command:
             self.tell('advice at 0: the query has no capture, so the count is 1 or 0: put !name{..} around what is counted, or count lines by --lines')
         are_rows_known = is_told or self.asks_for_lines() or self.given.form == 'any'
         for advice in self.advice():
-            if not (are_rows_known and is_of_rows(advice)):
+            if not (is_of_rows(advice) and (are_rows_known or (is_of_ends(advice) and self.are_rows_seen()))):
                 self.tell(f'advice at {advice.offset}: {advice.message}')
+
+    def are_rows_seen(self) -> bool:
+        """Whether the rows themselves say that an end is open, since they are read to the end."""
+        return self.given.form in _ROWS_SEEN and (self.given.most is None or self.given.form == 'freq')
 
     def advice(self) -> List[Advice]:
         """What is accepted and seldom meant, at the place where it was written."""
@@ -153,19 +162,47 @@ class Command:
     def opened(self, part: Part) -> Given:
         """The document of a part; what may hide its rows is told."""
         found = part.given()
+        if self.given.encoding or self.given.normal:
+            found = converted(found, self.given.encoding, self.given.normal)
         self.progress.begin(found.name, found.document)
         if part.piece is None or part.piece.start == 0:
             for doubt in doubts_of(found.data[:_HEAD], self.query, is_sequence=self.given.form in ('bed', 'gff', 'fasta')):
                 self.tell(f'{found.name}: {doubt}')
+            self.tell_of_lines(found)
         return found
+
+    def tell_of_lines(self, found: Given) -> None:
+        """Tells once that anchors are of the document, where it has several lines."""
+        if self.has_anchors and has_several_lines(found.data):
+            self.has_anchors = False
+            self.tell(f'{found.name}: it has several lines, and ^ and $ are the start and the end of the whole document: for lines write m after the '
+                      'closing slash')
 
     def rows(self, found: Given) -> Iterator[Row]:
         """The rows of a document, each counted; where there is none it is told what may be the reason."""
-        has_rows = False
-        for row in self.progress.counted(found.rows(self.query)):
-            has_rows = True
+        seen: List[Row] = []
+        rows = self.progress.counted(found.rows(self.query))
+        for row in islice(rows, MOST_SEEN):
+            seen.append(row)
             yield row
-        self.tell_oddity(found, has_rows)
+        yield from rows
+        self.tell_oddity(found, bool(seen))
+        self.tell_of_rows(found, seen)
+
+    def tell_of_rows(self, found: Given, seen: List[Row]) -> None:
+        """What the rows say of the query, once for all documents."""
+        if seen and not self.given.quiet and not self.has_told_of_rows:
+            told = doubts_of_rows(self.query.variables, seen, found.data)  # type: ignore[arg-type]
+            self.has_told_of_rows = bool(told)
+            for doubt in told:
+                self.tell(f'{found.name}: {doubt}')
+
+    def tell_of_head(self, found: Given) -> None:
+        """The same from the rows of the document's beginning, where rows are counted and not read."""
+        if not self.given.quiet and self.query.variables and not self.has_told_of_rows:
+            head = found if found.document is not None and found.size <= _HEAD else Given(found.name, Document(found.data[:_HEAD]))
+            self.tell_of_rows(head, list(islice(head.rows(self.query), MOST_SEEN)))
+            self.has_told_of_rows = True  # which is looked at in the first document that has rows
 
     def tell_oddity(self, found: Given, has_rows: bool) -> None:
         """What may be the reason that a document has no row."""
@@ -213,7 +250,7 @@ class Command:
             return written_aside(value) if form.is_text else value
 
         lines: Optional[int] = None
-        if form.takes_pieces:
+        if form.takes_pieces and not (self.given.encoding or self.given.normal):
             try:
                 lines = reach(self.query)
             except NoReach:
@@ -290,6 +327,8 @@ class Command:
             self.out.write(text.decode('utf-8', 'surrogateescape') + ('' if text.endswith(b'\n') else '\n'))
             return
         self.out.write(self.query.explanation)
+        if self.expansion.text != self.expansion.source:
+            self.out.write('the program reads no comments, parts, i, m, \\b or ~1{..}: rematch-to writes them out, and --expanded shows what the program reads\n')
         try:
             self.out.write(f'reach {reach(self.query)} line feeds\n')
         except NoReach as reason:
@@ -298,7 +337,17 @@ class Command:
             self.out.write(f'advice at {advice.offset}: {advice.message}\n')
         self.query.any(b'')  # which raises where an automaton is too large, as each document would
         self.check_examples()
+        self.check_cursor()
         self.check_documents()
+
+    def check_cursor(self) -> None:
+        """Raises where the program refuses the cursor; without a document what it says of one is not looked at."""
+        if self.given.cursor is not None and not self.given.documents:
+            try:
+                self.query.findall(b'', after=self.given.cursor, limit=0)
+            except CursorError as fault:
+                if 'document' not in fault.note:
+                    raise
 
     def check_examples(self) -> None:
         """Runs the examples of the query file."""
@@ -321,6 +370,8 @@ class Command:
         for name in self.given.documents:
             with self.guarded(name):
                 found = self.opened(Part(name))
+                if found.document is not None and self.given.cursor is not None:
+                    self.query.findall(found.document, after=self.given.cursor, limit=0)
                 if found.document is not None and not self.query.any(found.document):
                     from .why import told_why
                     self.out.writelines(f'{line}\n' for line in (f'no row on {name}', *told_why(self.query, found.data[:])))

@@ -7,11 +7,13 @@ from typing import List, Optional
 from ..documents import packed_by
 from ..query import Query
 from ..reader import read
+from ..tree import Atom, Concatenation, One, ones_of
 
-__all__ = ['doubts_of', 'oddity_of']
+__all__ = ['doubts_of', 'has_anchors_alone', 'has_several_lines', 'oddity_of']
 
 _SEEN = 1 << 20  # bytes of a document that are looked at
 _SEQUENCE = re.compile(rb'>[^\n]*\n[A-Za-z*.-]{20,}\r?\n[A-Za-z*.-]+')
+_ESCAPES = re.compile(rb'\\u[0-9a-fA-F]{4}')
 _MARKS = re.compile('[\u0300-\u036f]')
 _PACKED = ((b'PK\x03\x04', 'zip'), (b'\x28\xb5\x2f\xfd', 'zstd'), (b'\x1f\x9d', 'compress'), (b'7z\xbc\xaf', '7z'),
            (b'\x04\x22\x4d\x18', 'lz4'))
@@ -22,15 +24,15 @@ def oddity_of(data: bytes) -> Optional[str]:
     r"""What may be the reason that a document has no row, from how it begins; None where it begins as others do.
 
     >>> oddity_of(b'\xef\xbb\xbfa')
-    'it begins with a byte order mark, three bytes before its first sign'
+    'it begins with a byte order mark, three bytes before its first character'
     >>> oddity_of(b'one\r\ntwo\r\n')
-    'its lines end with \\r\\n, so that \\r stands before each \\n'
+    'its lines end with \\r\\n, so that \\r is before each \\n'
     """
     head = data[:4096]
     if head.startswith(b'\xef\xbb\xbf'):
-        return 'it begins with a byte order mark, three bytes before its first sign'
+        return 'it begins with a byte order mark, three bytes before its first character'
     if b'\r\n' in head:
-        return r'its lines end with \r\n, so that \r stands before each \n'
+        return r'its lines end with \r\n, so that \r is before each \n'
     return None
 
 
@@ -51,9 +53,9 @@ def doubts_of(data: bytes, query: Query, *, is_sequence: bool = False) -> List[s
     >>> doubts_of(b'>r\n' + b'ACGT' * 15 + b'\nACGT\n', Query('/!x{GATC}/'))
     ['it is wrapped as FASTA is: a place over two lines is not found, nor one of the other strand; bed, gff and fasta search its records']
     >>> doubts_of(b'caf\xe9', Query('/!x{.}/u'))
-    ['it is no UTF-8 at 3: the query is over characters, which are UTF-8']
+    ['it is no UTF-8 at 3: the query is over characters, which are UTF-8; --encoding latin-1 reads each byte as a letter']
     >>> doubts_of('cafe\u0301'.encode(), Query('/!x{é}/'))
-    ['accents stand in it as signs of their own: bring it and the query into one normal form (NFC)']
+    ['accents are characters of their own in it: bring it and the query into one normal form, by --normal nfc']
     >>> doubts_of(b'PK\x03\x04..', Query('/!x{a}/'))
     ['it is packed by zip, and its packed bytes are searched: unzip -p unpacks it']
     """
@@ -68,6 +70,8 @@ def doubts_of(data: bytes, query: Query, *, is_sequence: bool = False) -> List[s
         told.append('it is wrapped as FASTA is: a place over two lines is not found, nor one of the other strand; bed, gff and '
                     'fasta search '
                     'its records')
+    if head.startswith((b'{"', b'[{"')) and not query.text.isascii() and _ESCAPES.search(head):
+        told.append('some of its letters past ASCII are written as \\u escapes, which are other bytes: bring it into one form, as by jq -c .')
     if not query.text.isascii() or any(atom.is_over_characters for atom in read(query.text).atoms):
         told += _of_characters(head, query.text)
     return told
@@ -78,9 +82,38 @@ def _of_characters(head: bytes, query: bytes) -> List[str]:
         text = head.decode('utf-8')
     except UnicodeDecodeError as reason:
         if reason.start < len(head) - 4 or len(head) < _SEEN:
-            return [f'it is no UTF-8 at {reason.start}: the query is over characters, which are UTF-8']
+            return [f'it is no UTF-8 at {reason.start}: the query is over characters, which are UTF-8; --encoding latin-1 reads each byte as a letter']
         text = head[:reason.start].decode('utf-8')
     asked = query.decode('utf-8', 'replace')
     if _MARKS.search(text) and not _MARKS.search(asked) and r'\p{M' not in asked:
-        return ['accents stand in it as signs of their own: bring it and the query into one normal form (NFC)']
+        return ['accents are characters of their own in it: bring it and the query into one normal form, by --normal nfc']
     return []
+
+
+# -- Anchors
+
+def has_several_lines(data: bytes) -> bool:
+    """Whether a line feed is before the last byte of a document, or of how it begins."""
+    return 0 <= bytes(data[:_SEEN]).find(b'\n') < len(data) - 1
+
+
+def has_anchors_alone(source: bytes) -> bool:
+    r"""Whether a query has an anchor of the document, and nothing that shows that this is meant.
+
+    That is shown by a formula of a line feed, by `m`, and by another formula that begins, or ends, with what stands at a line's edge.
+
+    >>> [has_anchors_alone(text) for text in (rb'/^a/', rb'/^a/m', rb'/^a\n/', rb'/^a/ union /\na/', rb'/a$/ union /a[^\w]/', rb'/!x{a}/')]
+    [True, False, False, False, False, False]
+    """
+    atoms = [atom for atom in read(source, conveniences=True).atoms if b'm' not in atom.flags]
+    firsts, lasts = ([atom for atom in atoms if is_tied(atom)] for is_tied in (lambda atom: atom.is_first, lambda atom: atom.is_last))
+    others_first = any(_fits_edge(atom, 0) for atom in atoms if not atom.is_first)
+    others_last = any(_fits_edge(atom, -1) for atom in atoms if not atom.is_last)
+    named = [one for atom in {*firsts, *lasts} for one in ones_of(atom.formula) if one.fits_line_feed and not one.is_negated]
+    return not named and (bool(firsts) and not others_first or bool(lasts) and not others_last)
+
+
+def _fits_edge(atom: Atom, at: int) -> bool:
+    """Whether a formula begins (0) or ends (-1) with a sign or class that fits a line feed."""
+    parts = atom.formula.parts if isinstance(atom.formula, Concatenation) else ()
+    return bool(parts) and isinstance(parts[at], One) and parts[at].fits_line_feed

@@ -195,6 +195,8 @@ class _Count(Form):
         if self.given.lines:
             return count_lines(found, self.command.rows(found))
         rows = found.count(self.query)
+        if rows:
+            self.command.tell_of_head(found)
         self.command.tell_oddity(found, rows > 0)
         return rows
 
@@ -270,8 +272,8 @@ class _Places(Form):
         return self.command.progress.counted(in_order(every, data) if self.given.sorted else every)
 
     def tell_letters(self, name: str, data: bytes) -> None:
-        from .nucleotides import open_letters
-        from .sequences import are_proteins, has_records
+        from .nucleotides import has_plain_t, open_letters
+        from .sequences import are_proteins, are_rna, has_records
         if not has_records(data):
             return  # which is a fault, told alone
         is_protein = are_proteins(data)
@@ -279,6 +281,8 @@ class _Places(Form):
             self.command.tell(f'{name}: it has letters of proteins, which have no other strand: --forward leaves it out')
         if is_protein and self.given.iupac:
             self.command.tell(f'{name}: it has letters of proteins, and --iupac reads those of the query as nucleotides: drop it')
+        if not is_protein and has_plain_t(self.query.text) and are_rna(data):
+            self.command.tell(f'{name}: its records have U and no T, and the query has T: write U, or [TU]')
         letters = b'' if is_protein or self.given.iupac else open_letters(self.query.text)
         if letters:
             shown = ' '.join(letters.decode())

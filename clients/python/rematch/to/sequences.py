@@ -132,6 +132,17 @@ def are_proteins(data: bytes) -> bool:
     return any(_PROTEINS.search(line) is not None for line in lines if not line.startswith((b';', b'>')))
 
 
+def are_rna(data: bytes) -> bool:
+    """Whether the first records have a U and no T.
+
+    >>> are_rna(b'>Tt\\nGAUC\\n'), are_rna(b'>r\\nGATC\\n')
+    (True, False)
+    """
+    lines = bytes(data[:1 << 16]).upper().split(b'\n')
+    letters = b''.join(line for line in lines if not line.startswith((b'>', b';')))
+    return b'U' in letters and b'T' not in letters
+
+
 def in_order(found: Iterable['Site'], data: bytes) -> Iterator['Site']:
     """The sites by the records of the file, and in each by the place of their first letter; all of them are held."""
     numbers: Dict[str, int] = {}

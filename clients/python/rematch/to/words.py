@@ -86,6 +86,7 @@ _TABLES, _PLACES = ('csv', 'tsv', 'follow'), ('bed', 'gff', 'fasta')
 _JOBS = ('csv', 'tsv', 'kwic', 'lines', 'count', 'freq', *_PLACES)
 _FIRST = ('csv', 'tsv', 'kwic', 'lines', 'freq')
 _LISTS = (*_FIRST, 'count', 'any', 'html')
+_TEXTS = (*_LISTS, 'ann', 'why')
 
 
 class _Option(NamedTuple):
@@ -130,8 +131,11 @@ _OPTIONS = (
     _option('--iupac', (*_PLACES, 'check'), action='store_true', help='letters such as N, R, Y in the query stand for what they mean, in classes too'),
     _option('--sorted', _PLACES, action='store_true', help='by record and place, as bedtools wants it (all rows are held)'),
     _option('--strand-once', _PLACES, action='store_true', help='a palindrome, whose places both strands have, once'),
+    _option('--encoding', _TEXTS, metavar='NAME', help='the documents are in this encoding, as latin-1; places are those of the text in UTF-8'),
+    _option('--normal', _TEXTS, choices=('nfc', 'nfd', 'nfkc', 'nfkd'), help='brings documents and query into this normal form of Unicode'),
     _option('--frames', ('bed',), action='store_true', help='the reading frame in the name'),
     _option('--most-rows', ('html',), type=int, metavar='N', help='rows of each document (5000)'),
+    _option('-a', ('check',), dest='cursor', metavar='CURSOR', help='the cursor that the program is given'),
     _option('--expanded', ('check',), action='store_true', help='the query as the program gets it, and nothing else'),
     _option('--from-start', ('follow',), action='store_true', help='the rows that are there already, too'),
     _option('--state', _TABLES, metavar='FILE', help='the rows of what has come to the documents since the last run; the places are kept in FILE'),
@@ -139,9 +143,9 @@ _OPTIONS = (
     _option('--version', (), action='store_true', help='which rematch-to this is, and which program it runs'),
 )
 
-_QUERY = ('The query may have comments (# to the end of the line), i behind the closing slash for both cases of ASCII letters, '
-          'named parts (part ip = /[\\d.]+/; is used in a formula as %%{ip}), and words with mismatches: ~1{TATAAT} is a word with at most '
-          'one letter other than these.')
+_QUERY = ('The query may have comments (# to the end of the line), after the closing slash i for both cases of ASCII letters and m for ^ and $ of '
+          'lines, \\b at the ends of a formula for edges of words, named parts (part ip = /[\\d.]+/; is used in a formula as %%{ip}), and words with '
+          'mismatches: ~1{TATAAT} is a word with at most one letter other than these.')
 _ABOUT = ('Write the rows of a query in many documents. Documents that are packed by gzip, bzip2 or xz are unpacked, by their '
           'content. Without '
           'a document, and as -, standard input is read. Where one of several documents cannot be read the others are, and the '
@@ -239,9 +243,12 @@ def _refuse_numbers(parser: _Parser, given: Words) -> None:
         if value is not None and value < least:
             parser.error(f'{name} is {least} or more, not {value}')
     if given.state is not None:
-        for name, value in (('-n', given.most), ('--jobs', given.jobs), ('--characters', given.characters), ('--sentence', given.sentence)):
+        for name, value in (('-n', given.most), ('--jobs', given.jobs), ('--characters', given.characters), ('--sentence', given.sentence),
+                            ('--encoding', given.encoding), ('--normal', given.normal)):
             if value:
                 parser.error(f'--state writes all rows since the last run, by bytes: drop {name}')
+    if given.encoding is not None and not _is_encoding(given.encoding):
+        parser.error(f'there is no encoding {given.encoding!r}')
     if given.max_table is not None and not 1 <= given.max_table <= 100_000_000:
         parser.error(f'--max-table is 1 to 100000000, not {given.max_table}')
     if given.form == 'kwic' and given.columns is not None and not (given.columns.isdigit() and int(given.columns)):
@@ -252,6 +259,14 @@ def _refuse_numbers(parser: _Parser, given: Words) -> None:
         parser.error(f'--sentence and {"--columns" if given.context is None else "--context"} both say what stands around: give one of them')
     if given.texts and given.columns is not None:
         parser.error('--texts and --columns both say which columns there are: give one of them')
+
+
+def _is_encoding(name: str) -> bool:
+    import codecs
+    try:
+        return codecs.lookup(name)._is_text_encoding  # type: ignore[attr-defined]
+    except LookupError:
+        return False
 
 
 def _tell_version() -> NoReturn:
@@ -380,11 +395,13 @@ def hint_of_words(words: Sequence[str]) -> Optional[str]:
             others = ' '.join(plain[1:]) or 'DOC ..'
             return f'the form is the first word, and the query is given by -e: rematch-to csv -e {plain[0]!r} {others}'
     if '-f' in words and words.index('-f') + 1 < len(words):
-        return f'the form is the first word: rematch-to {words[words.index("-f") + 1]} -e QUERY DOC ..'
+        value = words[words.index('-f') + 1]
+        return (f'the form is the first word: rematch-to {value} -e QUERY DOC ..' if value in FORMS
+                else f'-f is of the program: the query in a file is given by -q {value}')
     for word in words:
         if word in _OTHERS and word not in ('-C', '-v', '-h', '--help', '--version') or word in ('-t', '-a'):
             return _OTHERS.get(word, 'the texts alone: --texts' if word == '-t'
-                               else 'rows behind a cursor are of the program: rematch -a CURSOR')
+                               else 'rows after a cursor are of the program: rematch -a CURSOR')
     if plain and plain[0] in FORMS and not {'-e', '-q'} & {word[:2] for word in words}:
         return _QUERY_FIRST % plain[1] if len(plain) > 1 else 'the query is given by -e TEXT or -q NAME'
     return None
@@ -393,18 +410,17 @@ def hint_of_words(words: Sequence[str]) -> Optional[str]:
 def _without_words_of_the_program(words: Sequence[str]) -> List[str]:
     """The words of check, without those that only the program has; what is wrong with them is told, with status 2."""
     own = [word for word in words[1:] if word not in ('--quiet', '--expanded', '--iupac')]
-    if '-o' not in own:
-        hint = hint_of_program_words(own)
-        if hint is not None:
-            print(f'rematch-to: {hint}', file=sys.stderr)
-            raise SystemExit(2)
+    hint = hint_of_program_words(own)
+    if hint is not None:
+        print(f'rematch-to: {hint}', file=sys.stderr)
+        raise SystemExit(2)
     kept: List[str] = [words[0]]
     left = list(words[1:])
     while left:
         word = left.pop(0)
-        if word in ('-n', '-a', '-f', '--trial'):
+        if word in ('-n', '-f', '--trial'):
             left = left[1:]
-        elif not (word in ('-t', '--explain') or word[:2] in ('-n', '-a', '-f') and not word.startswith('--')
+        elif not (word in ('-t', '--explain') or word[:2] in ('-n', '-f') and not word.startswith('--')
                   or word.startswith('--trial=')):
             kept.append(word)
     return kept
