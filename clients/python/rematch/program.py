@@ -8,7 +8,7 @@ from typing import Dict, IO, Iterator, List, Optional, Sequence, Union
 
 from .faults import ProgramError, ProgramNotFound, error_of
 
-__all__ = ['environment', 'find_program', 'Run']
+__all__ = ['serving', 'environment', 'find_program', 'Run']
 
 _PIECE = 1 << 17  # bytes that are asked of the pipe at once
 _MOST_WORD = 100_000  # bytes of a query that is given as a word of the command line
@@ -82,6 +82,21 @@ def find_program() -> str:
         raise ProgramNotFound(f'there is no program rematch: not named by REMATCH, not beside this package, not on the path; {reason}; '
                               'the released one needs Linux on x86_64 with glibc 2.34 or later')
     return found
+
+
+def serving(program: str, memory: Optional[int] = None) -> 'subprocess.Popen[bytes]':
+    """A run of ``rematch --serve``, which may take so many bytes of memory where that can be said to the system."""
+    try:
+        process = subprocess.Popen([program, '--serve'], stdin=subprocess.PIPE, stdout=subprocess.PIPE, stderr=subprocess.PIPE, env=environment())
+    except OSError as fault:
+        raise ProgramNotFound(f'the program {program} cannot be run: {fault.strerror}') from fault
+    if memory is not None:
+        import resource
+        try:
+            resource.prlimit(process.pid, resource.RLIMIT_AS, (memory, memory))
+        except (AttributeError, OSError):
+            pass  # no such system, or the program has ended, which the first request finds
+    return process
 
 
 class Run:

@@ -13,9 +13,9 @@ from itertools import accumulate
 from typing import Any, Dict, Iterable, Iterator, List, Optional, Set, Union
 
 from .documents import BEGINS, Document
-from .faults import DocumentError, OutOfMemory, ProgramError, ProgramNotFound, QueryError, RematchError, SizeError, error_of
+from .faults import DocumentError, OutOfMemory, ProgramError, QueryError, RematchError, SizeError, error_of
 from .match import Match, Matches, Row, Variables
-from .program import environment, find_program
+from .program import find_program, serving
 
 __all__ = ['Server', 'Served', 'Session', 'SessionError']
 
@@ -82,8 +82,8 @@ def _fault(told: str, query: bytes) -> RematchError:
 class Server:
     """A program that answers many queries, one after another or several at a time, and ends with the ``with`` block.
 
-    ``program`` is its path, where it is not that of `find_program`. Threads may share a server: requests are answered one
-    by one. A program without sessions raises `ProgramError`.
+    ``program`` is its path, where it is not that of `find_program`, and ``memory`` the most bytes of memory that it may take, where
+    that is limited. Threads may share a server: requests are answered one by one. A program without sessions raises `ProgramError`.
 
     A server that dies raises `ProgramError` at the request that it does not answer. The next `query` or `open` starts it
     anew, which ``restarts`` counts, and each session of before raises `SessionError`, since it is lost.
@@ -94,8 +94,9 @@ class Server:
     ['a', 'aa', 'a']
     """
 
-    def __init__(self, program: Optional[str] = None) -> None:
+    def __init__(self, program: Optional[str] = None, *, memory: Optional[int] = None) -> None:
         self.program = find_program() if program is None else program
+        self.memory = memory
         self._lock = threading.Lock()
         self._numbers = 0
         self._asked: Set[int] = set()  # sessions that are open by `ask`
@@ -105,11 +106,7 @@ class Server:
         self._start()
 
     def _start(self) -> None:
-        try:
-            self._process = subprocess.Popen([self.program, '--serve'], stdin=subprocess.PIPE, stdout=subprocess.PIPE,
-                                             stderr=subprocess.PIPE, env=environment())
-        except OSError as fault:
-            raise ProgramNotFound(f'the program {self.program} cannot be run: {fault.strerror}') from fault
+        self._process = serving(self.program, self.memory)
         self._lost = None
         self._asked.clear()
 

@@ -8,8 +8,9 @@ the focus is lit, arrows go from row to row, and a page of many rows is shown in
 from __future__ import annotations
 
 import unicodedata
-from bisect import bisect_left, bisect_right
+from bisect import bisect_left
 from html import escape
+from itertools import accumulate, chain
 from typing import Dict, Iterable, List, NamedTuple, Optional, Sequence, Tuple
 
 from .documents import Document
@@ -22,6 +23,8 @@ _LIGHT = ['#0b7285', '#c2255c', '#2b8a3e', '#d9480f', '#5f3dc4', '#1864ab', '#a6
 _DARK = ['#3bc9db', '#f783ac', '#69db7c', '#ffa94d', '#b197fc', '#74c0fc', '#faa2c1', '#c0eb75']
 _STEP, _BAR, _LINE = 7, 4, 24  # pixels: from lane to lane, of a bar, of a line of text
 _MOST_LANES = 12
+_MOST_OF_SPAN = 2000  # lines of a long span that are shown, the first and the last ones
+_BLOCK = 4096  # bytes of which the lines are counted together
 _SURE, _SURE_WIDE = 16, 72  # bytes of a line that are on its first line on a screen: on any, and on one of 900 pixels
 _WHOLE, _PART = 1000, 250  # rows that a page shows at once, and those of a part where it has more
 _LISTED = 8  # rows of a line that are listed before the others are folded
@@ -121,22 +124,42 @@ class _Bar(NamedTuple):
 
 
 class _Lines:
-    """Where the lines of a document begin and end, its line feeds included."""
+    """The lines of a document, their line feeds included, by what is counted in blocks of it."""
 
     def __init__(self, data: bytes) -> None:
-        self.starts = [0]
-        at = data.find(b'\n')
-        while at >= 0:
-            self.starts.append(at + 1)
-            at = data.find(b'\n', at + 1)
-        if len(self.starts) > 1 and self.starts[-1] == len(data):
-            self.starts.pop()
-        self.ends = self.starts[1:] + [len(data)]
+        self._data = data
+        self._starts: Dict[int, int] = {}  # those that were asked for
+        counts = (data[start:start + _BLOCK].count(b'\n') for start in range(0, len(data), _BLOCK))
+        self._before = list(accumulate(counts, initial=0))  # line feeds before each block
+        self.count = self._before[-1] + (data[-1:] != b'\n')  # of lines; an empty document has one
+
+    def number(self, place: int) -> int:
+        """The number of the line of a place, from 0; that of the last line at the end."""
+        block = place // _BLOCK
+        return min(self._before[block] + self._data[block * _BLOCK:place].count(b'\n'), self.count - 1)
+
+    def start(self, line: int) -> int:
+        """Where a line begins; of the line behind the last the end."""
+        found = self._starts.get(line)
+        if found is None:
+            before = self._starts.get(line - 1)
+            found = self._starts[line] = self._found(line) if before is None else self._data.find(b'\n', before) + 1 or len(self._data)
+        return found
+
+    def _found(self, line: int) -> int:
+        """The same, by the block that has the line feed before it."""
+        if line >= self.count:
+            return len(self._data)
+        block = max(bisect_left(self._before, line) - 1, 0)
+        at = block * _BLOCK
+        for _ in range(line - self._before[block]):
+            at = self._data.find(b'\n', at) + 1
+        return at
 
     def of(self, start: int, end: int) -> range:
         """The lines on which a span lies."""
-        first = max(0, bisect_right(self.starts, start) - 1)
-        return range(first, first + 1 if end == start else bisect_left(self.starts, end))
+        first = self.number(start)
+        return range(first, first + 1 if end == start else self.number(end - 1) + 1)
 
 
 def lanes(bars: Sequence[Tuple[int, int]], most: int = _MOST_LANES) -> List[Optional[int]]:
@@ -177,7 +200,8 @@ def _shown(part: bytes) -> str:
 
 
 class _View:
-    def __init__(self, document: Document, names: Sequence[str], rows: Sequence[Row], first: int = 0) -> None:
+    def __init__(self, document: Document, names: Sequence[str], rows: Sequence[Row], first: int = 0, most: int = _MOST_OF_SPAN) -> None:
+        self.most = most  # lines of a span that have bars: the first and the last ones
         self.data: bytes = document.data  # type: ignore[assignment]
         self.first = first  # rows that stand before these
         self.document = document
@@ -200,8 +224,10 @@ class _View:
                     spans.setdefault((row[2 * name], -row[2 * name + 1], name), []).append(number)
         found: Dict[int, List[_Bar]] = {}
         for (start, end, name), rows in sorted(spans.items()):
-            for line in self.lines.of(start, -end):
-                first, last = self.lines.starts[line], self.lines.ends[line]
+            lines = self.lines.of(start, -end)
+            half = self.most // 2
+            for line in lines if len(lines) <= self.most else chain(lines[:half], lines[-half:]):
+                first, last = self.lines.start(line), self.lines.start(line + 1)
                 bar = _Bar(max(start, first), min(-end, last), name, start >= first, -end <= last, tuple(rows))
                 found.setdefault(line, []).append(bar)
         return found
@@ -216,7 +242,7 @@ class _View:
             begun.setdefault(self.lines.of(first, first)[0], []).append(number)
         near = {line for at in bars for line in range(at - context, at + context + 1)} | set(begun)
         before = -1
-        for line in sorted(near & set(range(len(self.lines.starts)))):
+        for line in sorted(line for line in near if 0 <= line < self.lines.count):
             listed = begun.get(line, [])
             yield f'<div class="rm-block" data-n="{len(listed)}">'
             if line != before + 1:
@@ -225,11 +251,11 @@ class _View:
             yield self.line(line, sorted(bars.get(line, []), key=lambda bar: (bar.start, -bar.end)))
             yield self.listed(listed)
             yield '</div>\n'
-        if before + 1 < len(self.lines.starts):
-            yield _skipped(len(self.lines.starts) - before - 1)
+        if before + 1 < self.lines.count:
+            yield _skipped(self.lines.count - before - 1)
 
     def line(self, line: int, bars: Sequence[_Bar]) -> str:
-        start, end = self.lines.starts[line], self.lines.ends[line]
+        start, end = self.lines.start(line), self.lines.start(line + 1)
         number = f'<div class="rm-no" title="{self.told(start, end)}">{line + 1}</div>'
         placed = lanes([(bar.start, bar.end) for bar in bars])
         hidden = placed.count(None)
@@ -342,9 +368,12 @@ def _folded(part: bytes) -> str:
 
 
 def section(document: Document, names: Sequence[str], rows: Sequence[Row], of: Optional[int], context: int,
-            first: int = 0) -> str:
-    """What stands in a view: the number of rows, the colours of the variables, lines with bars, rows; words as of `fragment`."""
-    view = _View(document, names, rows, first)
+            first: int = 0, most: int = _MOST_OF_SPAN) -> str:
+    """What stands in a view: the number of rows, the colours of the variables, lines with bars, rows; words as of `fragment`.
+
+    Of a span over more than ``most`` lines the first and the last ones are shown.
+    """
+    view = _View(document, names, rows, first, most)
     told = f'{len(rows)} row{"s" * (len(rows) != 1)}' + (f' of {of}' if of is not None and of > len(rows) else '')
     key = ''.join(f'<b style="background:var(--rm{k % len(_LIGHT)})"></b>{escape(name)}' for k, name in enumerate(names))
     return f'<p class="rm-key">{told}{key}</p>\n{"".join(view.body(context))}'

@@ -3,8 +3,11 @@ import gzip
 import json
 import os
 import signal
+import socket
 import subprocess
 import threading
+import time
+import tracemalloc
 import unittest
 import urllib.error
 import urllib.request
@@ -13,6 +16,7 @@ from unittest import mock
 import rematch
 from rematch.to import play
 from browser import Browser
+from commands import asked
 from support import CLIENTS, PROGRAM, Folder, children, needs, needs_speed
 from test_session import serves
 
@@ -47,6 +51,93 @@ class Served(Folder):
         except urllib.error.HTTPError as fault:
             with fault:
                 return fault.code, fault.read().decode()
+
+
+@has_sessions
+class Bounds(Served):
+    """What a page may cost, and odd requests."""
+
+    def raw(self, http, *lines, body=b'', wait=20):
+        """What comes back of a request that is written as it is."""
+        with socket.create_connection(('127.0.0.1', http.server_port), timeout=wait) as connection:
+            connection.sendall('\r\n'.join([f'POST {http.path} HTTP/1.1', f'Host: 127.0.0.1:{http.server_port}', *lines, '', '']).encode('latin-1') + body)
+            with connection.makefile('rb') as reply:
+                return reply.read()
+
+    def test_odd_requests_are_refused(self):
+        http = self.begin('', 'a')
+        for length in ('\xb2', '1' * 5000, '-1', '0x10', ''):
+            self.assertIn(b' 400 ', self.raw(http, 'Content-Length: ' + length).split(b'\r\n')[0], length)
+        self.assertIn(b' 411 ', self.raw(http).split(b'\r\n')[0])
+        self.assertIn(b' 413 ', self.raw(http, 'Content-Length: 999999999999').split(b'\r\n')[0])
+        deep = b'[' * 100000
+        self.assertEqual(self.post(http, deep)[0], 400)
+        self.assertEqual(self.post(http, {'query': '/!x{a}/', 'first': 0, 'known': 0})[1]['rows'], 1)
+
+    def test_half_a_request_ends(self):
+        self.assertEqual(play._Handler.timeout, 30)
+        http = self.begin('', 'a')
+        with mock.patch.object(play._Handler, 'timeout', 0.3):
+            self.assertEqual(self.raw(http, 'Content-Length: 10', body=b'{'), b'')
+
+    @needs_speed
+    def test_the_memory_of_the_program(self):
+        """A query that would take more than is allowed is told, and the next one has its rows."""
+        text = 'ab cd\n' * 20000
+        player = play.Player(text, memory=200_000_000)
+        self.addCleanup(player.close)
+        dear = '/' + ''.join('!v%d{.*}' % number for number in range(32)) + '/'
+        self.assertIn('memory', player.ask(dear, None, 0)['fault'])
+        self.assertEqual(player.ask('/!x{b} /', None, 0)['rows'], 100)
+
+    @needs_speed
+    def test_very_many_lines(self):
+        """A screenful is drawn, also of spans over all lines."""
+        text = '\n' * 4_000_000
+        document = play._document(text)
+        begun = time.monotonic()
+        tracemalloc.start()
+        html = play.section(document, ('x',), [(k, 4_000_000 - k) for k in range(100)], None, 1, 0, play._LINES_OF_SPAN)
+        most = tracemalloc.get_traced_memory()[1]
+        tracemalloc.stop()
+        self.assertLess((len(html), most), (5_000_000, 60_000_000))
+        self.assertLess(time.monotonic() - begun, 60)
+
+    def test_a_packed_document_is_unpacked_up_to_the_limit(self):
+        """What is too long is refused before it is unpacked."""
+        path = self.file('bomb.gz', gzip.compress(bytes(400_000_000), 1))
+        with mock.patch('tempfile.TemporaryFile', side_effect=AssertionError('it was unpacked')):
+            for words, status, part in ((('csv', '-e', '/!x{b(.|\\n)*}/', path), 4, 'cannot be cut'), (('ann', '-e', '/!x{b}/', path), 6, 'longer than'),
+                                        (('html', '-e', '/!x{b}/', path), 6, 'longer than')):
+                found, _, told = asked(*words)
+                self.assertEqual((found, part in told), (status, True), told)
+            with self.assertRaises(rematch.DocumentError):
+                play._text_of(path)
+        with mock.patch('rematch.to.packed._MOST_UNPACKED', 300_000_000):
+            found, _, told = asked('count', '-e', '/!x{b}/', path)
+            self.assertEqual((found, 'it holds more than 300000000 bytes' in told), (5, True), told)
+
+
+class Opened(Folder):
+    def test_the_secret_is_no_word_of_a_command(self):
+        """--open gives the browser a file that this user alone can read."""
+        told = os.path.join(self.folder, 'told')
+        browser = self.script('browser', '#!/bin/sh\nfile=${1#file://}\n{ echo "$1"; stat -c %%a "$file" "${file%%/*}"; cat "$file"; } >%s.new\nmv %s.new %s\n' % ((told,) * 3))
+        process = subprocess.Popen([COMMAND, '--open'], stdout=subprocess.PIPE, stderr=subprocess.PIPE, env=dict(os.environ, BROWSER=browser + ' %s'),
+                                   preexec_fn=lambda: signal.signal(signal.SIGINT, signal.SIG_DFL))
+        self.addCleanup(process.kill)
+        address = process.stdout.readline().decode().strip()
+        ends = time.monotonic() + 60
+        while not os.path.exists(told) and time.monotonic() < ends:
+            time.sleep(0.05)
+        with open(told) as file:
+            word, mode, of_folder, *page = file.read().splitlines()
+        self.assertRegex(word, '^file:///')
+        self.assertNotIn(address.rstrip('/').rsplit('/', 1)[1], word)
+        self.assertEqual((mode, of_folder, address in page[0]), ('600', '700', True))
+        process.send_signal(signal.SIGINT)
+        process.communicate(timeout=100)
+        self.assertFalse(os.path.exists(word[7:]))
 
 
 @has_sessions

@@ -10,9 +10,21 @@ from ..faults import RematchError
 from .._reach import NoReach
 from .output import Screen
 
-__all__ = ['REFUSED', 'line_of', 'run_told']
+__all__ = ['MEGABYTE', 'REFUSED', 'add_memory', 'line_of', 'run_told']
 
 REFUSED = 4  # of what has no reach, which is a refusal for its size
+MEGABYTE = 1_000_000
+
+
+def add_memory(parser: Any) -> None:
+    """Adds the option for the memory of the program that answers requests."""
+    def megabytes(text: str) -> int:
+        found = int(text) if text.isascii() and text.isdigit() and len(text) < 10 else 0
+        if not found:
+            raise ValueError
+        return found
+    megabytes.__name__ = 'number of megabytes'
+    parser.add_argument('--memory', type=megabytes, default=2000, metavar='MB', help='the memory that the program may take, in megabytes (2000)')
 
 
 def line_of(fault: Exception) -> str:

@@ -20,7 +20,7 @@ from .doubts import doubts_of, has_anchors_alone, has_several_lines, oddity_of
 from .encodings import converted, in_form
 from .nucleotides import small_letter, with_iupac
 from .output import fault_of_output, output, written
-from .packed import Given
+from .packed import Given, reach_of_long, too_long
 from .progress import Progress
 from .forms import DOCUMENT_FORMS, Form, refuse
 from .jobs import Part, done_in_order, parts_of_documents, read_aside, written_aside
@@ -161,7 +161,7 @@ class Command:
 
     def opened(self, part: Part) -> Given:
         """The document of a part; what may hide its rows is told."""
-        found = part.given()
+        found = part.given(self.refuse_long if part.piece is None else None)
         if self.given.encoding or self.given.normal:
             found = converted(found, self.given.encoding, self.given.normal)
         self.progress.begin(found.name, found.document)
@@ -177,6 +177,13 @@ class Command:
             self.has_anchors = False
             self.tell(f'{found.name}: it has several lines, and ^ and $ are the start and the end of the whole document: for lines write m after the '
                       'closing slash')
+
+    def refuse_long(self) -> None:
+        """Raises why a document that is too long for one run cannot be searched, before more of it is unpacked."""
+        if self.given.form in ('ann', 'html'):
+            raise too_long(str(self.name))
+        if self.given.form not in ('bed', 'gff', 'fasta'):  # which search each record in windows
+            reach_of_long(self.query)
 
     def rows(self, found: Given) -> Iterator[Row]:
         """The rows of a document, each counted; where there is none it is told what may be the reason."""

@@ -29,9 +29,9 @@ class Part(NamedTuple):
     name: str
     piece: Optional[Piece] = None
 
-    def given(self) -> Given:
-        """The document, or what has the rows of the piece alone."""
-        found = given_document(self.name)
+    def given(self, refuse_long: Optional[Callable[[], None]] = None) -> Given:
+        """The document, or what has the rows of the piece alone; ``refuse_long`` is as of `given_document`."""
+        found = given_document(self.name, refuse_long)
         return found if self.piece is None else PieceOfDocument(found, self.piece)
 
 

@@ -1,20 +1,23 @@
 """Documents of the commands: files by their names, unpacked where their content is packed, whatever they are called."""
 from __future__ import annotations
 
+import errno
 import mmap
 import os
 import sys
 import tempfile
-from typing import IO, Any, Iterator, Optional, Union
+from typing import IO, Any, Callable, Iterator, Optional, Union
 
 from ..documents import MOST_BYTES, Document, unreadable, packed_by
+from ..faults import RematchError
 from ..match import Row
 from ..pieces import NoReach, reach, rows_in_pieces
 from ..query import Query
 
-__all__ = ['Given', 'given_document']
+__all__ = ['Given', 'given_document', 'reach_of_long', 'too_long']
 
 _COPIED = 1 << 22
+_MOST_UNPACKED = 1 << 34  # bytes that are kept in a file for a while
 
 
 class Given:
@@ -44,7 +47,7 @@ class Given:
     def whole(self) -> Document:
         """The document, which one run must be able to take."""
         if self.document is None:
-            raise _too_long(self.name)
+            raise too_long(self.name)
         return self.document
 
     def rows(self, query: Query) -> Iterator[Row]:
@@ -53,10 +56,7 @@ class Given:
             self.document.data  # read once, so that places and texts are of the same bytes
             return query.rows(self.document)
         assert self._file is not None
-        try:
-            reached = reach(query)
-        except NoReach as reason:
-            raise NoReach(f'it is too long for one run, and cannot be cut: {reason}') from None
+        reached = reach_of_long(query)
         return rows_in_pieces(query, f'/dev/fd/{self._file.fileno()}', lines=reached)
 
     def count(self, query: Query) -> int:
@@ -64,17 +64,27 @@ class Given:
         return query.count(self.document) if self.document is not None else sum(1 for _ in self.rows(query))
 
 
-def _too_long(name: str) -> Exception:
+def reach_of_long(query: Query) -> int:
+    """The reach of a query, for a document that one run cannot take; `NoReach` says why there is none."""
+    try:
+        return reach(query)
+    except NoReach as reason:
+        raise NoReach(f'it is too long for one run, and cannot be cut: {reason}') from None
+
+
+def too_long(name: str) -> Exception:
+    """The fault of a document that one run must take, and cannot."""
     from ..faults import DocumentError
     fault = DocumentError(f'document longer than {MOST_BYTES} bytes', 6)
     fault.filename = name
     return fault
 
 
-def given_document(name: str) -> Given:
+def given_document(name: str, refuse_long: Optional[Callable[[], None]] = None) -> Given:
     """The document of that name; ``-`` is standard input. What is packed by gzip, bzip2 or xz is unpacked.
 
-    Raises `DocumentError` where it cannot be read, or where what is packed is broken.
+    Raises `DocumentError` where it cannot be read, where what is packed is broken, or where it unpacks to more than 16 GiB.
+    ``refuse_long`` is called where one run cannot take it, before more of it is unpacked, and may raise why nothing can.
 
     >>> import gzip, tempfile
     >>> with tempfile.NamedTemporaryFile() as file:
@@ -91,24 +101,34 @@ def given_document(name: str) -> Given:
             file = import_module(module).open(file)
         elif name != '-' and os.path.isfile(name):
             if os.path.getsize(name) > MOST_BYTES:
+                if refuse_long is not None:
+                    refuse_long()
                 return Given(name, None, file)
             file.close()
             from pathlib import Path
             return Given(name, _named(Document(Path(name)), name))
-        return _read(name, file)
+        return _read(name, file, refuse_long)
     except Exception as fault:
+        if isinstance(fault, RematchError):
+            raise
         if isinstance(fault, (OSError, EOFError)) or type(fault).__name__ in ('error', 'LZMAError'):
             raise unreadable(name, fault) from fault
         raise
 
 
-def _read(name: str, file: Any) -> Given:
+def _read(name: str, file: Any, refuse_long: Optional[Callable[[], None]]) -> Given:
     """What a pipe or a packed file holds: in memory, or in a file for a while where it is too long for one run."""
     data = file.read(MOST_BYTES + 1)
     if len(data) <= MOST_BYTES:
         return Given(name, _named(Document(data), name))
+    if refuse_long is not None:
+        refuse_long()
     spool = tempfile.TemporaryFile()
+    length = 0
     while data:
+        length += len(data)
+        if length > _MOST_UNPACKED:
+            raise OSError(errno.EFBIG, f'it holds more than {_MOST_UNPACKED} bytes: unpack it, and give the file')
         spool.write(data)
         data = file.read(_COPIED)
     spool.flush()

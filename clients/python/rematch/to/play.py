@@ -7,11 +7,13 @@ from __future__ import annotations
 
 import json
 import os
+import re
 import secrets
 import sys
 import threading
+from contextlib import contextmanager, nullcontext
 from http.server import BaseHTTPRequestHandler, ThreadingHTTPServer
-from typing import Any, Dict, List, Optional, Tuple
+from typing import Any, Dict, Iterator, List, Optional, Tuple
 
 from ..documents import Document
 from ..faults import DocumentError, ProgramError, QueryError, RematchError
@@ -19,7 +21,7 @@ from ..match import Row
 from ..query import Query
 from ..session import Server, Session, SessionError
 from ..view import section
-from .command import run_told
+from .command import MEGABYTE, add_memory, run_told
 from .expand import expanded
 from .play_page import page
 
@@ -29,17 +31,20 @@ MOST_BYTES = 16_777_216
 """The most bytes of a document, which are those of a session."""
 _SCREEN = 100  # rows that are shown at once
 _SECONDS = 10.0  # that a question may take
+_MEMORY = 2_000_000_000  # bytes that the program may take
+_WAIT = 30  # seconds in which a request is there
+_LINES_OF_SPAN = 40  # lines of a long span that are shown
 _PATIENCE = 0.2  # seconds that a newer question leaves an older one
 
 
 class Player:
     """The questions of one page: the document that was given last, and the rows of the newest query."""
 
-    def __init__(self, text: str = '', seconds: float = _SECONDS) -> None:
+    def __init__(self, text: str = '', seconds: float = _SECONDS, memory: int = _MEMORY) -> None:
         self.document = text
         self.number = 0  # of the document, which counts those that were given
         self.seconds = seconds
-        self._server = Server()
+        self._server = Server(memory=memory)
         self._session: Optional[Session] = None
         self._asked: Tuple[str, str] = ('', '')  # the query and the document of the session
         self._rows: List[Row] = []
@@ -132,7 +137,7 @@ class Player:
             self._rows += [match.row for match in session.next(min(1000, first + _SCREEN - len(self._rows)))]
         shown = self._rows[first:first + _SCREEN]
         has_more = session.more or first + _SCREEN < len(self._rows)
-        html = section(_document(self.document), session.variables, shown, None, 1, first)
+        html = section(_document(self.document), session.variables, shown, None, 1, first, _LINES_OF_SPAN)
         return {'html': html, 'first': first, 'rows': len(shown), 'found': len(self._rows), 'more': has_more,
                 'all': not session.more}
 
@@ -160,6 +165,7 @@ class _Handler(BaseHTTPRequestHandler):
     server: '_Http'
     protocol_version = 'HTTP/1.1'
     server_version, sys_version = 'rematch-play', ''
+    timeout = _WAIT
 
     def log_message(self, format: str, *words: Any) -> None:
         """Nothing is written of what is asked."""
@@ -195,9 +201,12 @@ class _Handler(BaseHTTPRequestHandler):
         if not self._is_ours():
             self._refuse(404, 'nothing here: the address has a secret, which rematch-play has written')
             return
-        length = self.headers.get('Content-Length', '')
-        if not length.isdigit():
+        length = self.headers.get('Content-Length')
+        if length is None:
             self._refuse(411, 'a question says how long it is')
+            return
+        if not re.fullmatch('[0-9]{1,18}', length):
+            self._refuse(400, 'the length of a question is a number')
             return
         if int(length) > 7 * MOST_BYTES:
             self._refuse(413, f'document longer than {MOST_BYTES} bytes')
@@ -208,7 +217,7 @@ class _Handler(BaseHTTPRequestHandler):
             is_why = asked.get('why', False)
             if not (isinstance(query, str) and isinstance(document, (str, type(None))) and type(first) is type(known) is int and type(is_why) is bool):
                 raise ValueError
-        except (ValueError, KeyError, TypeError, AttributeError):
+        except (ValueError, KeyError, TypeError, AttributeError, RecursionError):
             self._refuse(400, 'a question is an object with query and first, and perhaps document, known and why')
             return
         player = self.server.player
@@ -240,11 +249,11 @@ class _Http(ThreadingHTTPServer):
             super().handle_error(request, client_address)
 
 
-def serve(query: str = '', text: str = '', name: str = '', port: int = 0, seconds: float = _SECONDS) -> _Http:
+def serve(query: str = '', text: str = '', name: str = '', port: int = 0, player: Optional[Player] = None) -> _Http:
     """A server for the page, which waits for ``serve_forever``; ``server_close`` and ``player.close`` end it."""
     if len(text.encode('utf-8', 'surrogatepass')) > MOST_BYTES:
         raise DocumentError(f'document longer than {MOST_BYTES} bytes', 6)
-    player = Player(text, seconds)
+    player = Player(text) if player is None else player
     try:
         return _Http(port, player, query, name)
     except OSError as fault:
@@ -255,10 +264,14 @@ def serve(query: str = '', text: str = '', name: str = '', port: int = 0, second
 
 def _text_of(name: str) -> str:
     from .packed import given_document
+
+    def refuse() -> None:
+        raise DocumentError(f'document longer than {MOST_BYTES} bytes', 6)
+
     try:
-        data = given_document(name).data
+        data = given_document(name, refuse).data
         if len(data) > MOST_BYTES:
-            raise DocumentError(f'document longer than {MOST_BYTES} bytes', 6)
+            refuse()
         return data[:].decode('utf-8')
     except UnicodeDecodeError as reason:
         fault = DocumentError(f'no UTF-8 at {reason.start}, and the page shows text', 5)
@@ -267,6 +280,19 @@ def _text_of(name: str) -> str:
     except DocumentError as fault:
         fault.filename = name
         raise
+
+
+@contextmanager
+def _opened(address: str) -> Iterator[None]:
+    """Opens the address in the browser by a file that this user alone can read, since each user sees the words of a command."""
+    import webbrowser
+    from tempfile import TemporaryDirectory
+    with TemporaryDirectory(prefix='rematch-play-') as folder:
+        path = os.path.join(folder, 'open.html')
+        with open(os.open(path, os.O_WRONLY | os.O_CREAT | os.O_EXCL, 0o600), 'w') as file:
+            file.write(f'<!doctype html><meta charset="utf-8"><title>rematch-play</title><meta http-equiv="refresh" content="0; url={address}">\n')
+        webbrowser.open('file://' + path)
+        yield
 
 
 def main(words: Optional[List[str]] = None) -> int:
@@ -280,6 +306,7 @@ def main(words: Optional[List[str]] = None) -> int:
     parser.add_argument('--port', type=int, default=0, metavar='N', help='the port (any that is free)')
     parser.add_argument('--open', action='store_true', help='open the address in the browser')
     parser.add_argument('document', nargs='?', help='the document to begin with; packed ones are unpacked')
+    add_memory(parser)
     given = parser.parse_args(words)
     if not 0 <= given.port < 65536:
         parser.error(f'a port is 0 to 65535, not {given.port}')
@@ -290,13 +317,12 @@ def main(words: Optional[List[str]] = None) -> int:
             with open(given.name, encoding='utf-8', errors='surrogateescape') as file:
                 query = file.read()
         document = '' if given.document is None else _text_of(given.document)
-        http = serve(query, document, os.path.basename(given.document or ''), given.port)
+        player = Player(document, memory=given.memory * MEGABYTE)
+        http = serve(query, document, os.path.basename(given.document or ''), given.port, player)
         try:
             print(http.address, flush=True)
-            if given.open:
-                import webbrowser
-                webbrowser.open(http.address)
-            http.serve_forever()
+            with _opened(http.address) if given.open else nullcontext():
+                http.serve_forever()
         except KeyboardInterrupt:
             pass
         finally:

@@ -12,10 +12,10 @@ import sys
 from threading import Timer
 from typing import IO, Any, Dict, Iterator, List, Optional, Tuple
 
-from ..faults import ProgramNotFound, error_of
-from ..program import environment, find_program
+from ..faults import error_of
+from ..program import find_program, serving
 from ..session import LONGEST_REQUEST, refusal
-from .command import run_told
+from .command import MEGABYTE, add_memory, run_told
 
 __all__ = ['Relay', 'main', 'requests_of']
 
@@ -65,7 +65,7 @@ def _checked(line: _Line) -> Tuple[Optional[int], Optional[str]]:
 class Relay:
     """A program whose requests are looked at first; where it ends it is started anew, without the sessions that it had.
 
-    A request that takes more than so many seconds ends it.
+    A request that takes more than so many seconds ends it; it may take so many bytes of memory.
 
     >>> relay = Relay()
     >>> relay.reply(b'{"op":"next","id":7,"n":5000}')
@@ -76,18 +76,15 @@ class Relay:
     'end'
     """
 
-    def __init__(self, program: Optional[str] = None, seconds: Optional[float] = None) -> None:
+    def __init__(self, program: Optional[str] = None, seconds: Optional[float] = None, memory: Optional[int] = None) -> None:
         self.program = find_program() if program is None else program
+        self.memory = memory
         self.seconds = seconds
         self._process: 'Optional[subprocess.Popen[bytes]]' = None
         self._begin()
 
     def _begin(self) -> 'subprocess.Popen[bytes]':
-        try:
-            self._process = subprocess.Popen([self.program, '--serve'], stdin=subprocess.PIPE, stdout=subprocess.PIPE, stderr=subprocess.PIPE,
-                                             env=environment())
-        except OSError as fault:
-            raise ProgramNotFound(f'the program {self.program} cannot be run: {fault.strerror}') from fault
+        self._process = serving(self.program, self.memory)
         return self._process
 
     def reply(self, line: bytes) -> bytes:
@@ -161,6 +158,7 @@ def main(words: Optional[List[str]] = None) -> int:
     parser = ArgumentParser(prog='rematch-serve', description='Answer requests as rematch --serve does, and tell back with its number and '
                             'a reason what is no request or is too long, which then ends nothing.')
     parser.add_argument('--seconds', type=float, metavar='N', help='end the program, with its sessions, where a request takes longer')
+    add_memory(parser)
     parser.add_argument('--version', action='store_true', help='which rematch-serve this is, and which program it runs')
     given = parser.parse_args(words)
     if given.seconds is not None and not 0 < given.seconds <= 1e6:
@@ -171,7 +169,7 @@ def main(words: Optional[List[str]] = None) -> int:
             from ..version import version_text
             print(version_text())
             return
-        relay = Relay(seconds=given.seconds)
+        relay = Relay(seconds=given.seconds, memory=given.memory * MEGABYTE)
         try:
             for line in requests_of(sys.stdin.buffer):
                 sys.stdout.buffer.write(relay.reply(line) + b'\n')
