@@ -1,10 +1,6 @@
-#!/usr/bin/env python3
-"""Writes the pages of the manual of the commands beside the program, of what each says with --help; rematch.1 is written by hand.
+"""The pages of the manual of the commands beside the program, made of what each says with --help; rematch.1 is written by hand.
 
-    man/make            writes what is stale, and names it
-    man/make --check    writes nothing; the exit status is 1 where something is stale
-
-Python 3.9, standard library.
+docs/make writes them. Python 3.9, standard library.
 """
 import argparse
 import os
@@ -13,8 +9,8 @@ import sys
 from unittest import mock
 
 sys.dont_write_bytecode = True
-HERE = os.path.dirname(os.path.abspath(__file__))
-sys.path.insert(0, os.path.join(os.path.dirname(HERE), 'clients', 'python'))
+ROOT = os.path.dirname(os.path.dirname(os.path.abspath(__file__)))
+sys.path.insert(0, os.path.join(ROOT, 'clients', 'python'))
 from rematch.to.convert import main as to_main  # noqa: E402
 from rematch.to.piece import cut_main, piece_main  # noqa: E402
 from rematch.to.play import main as play_main  # noqa: E402
@@ -42,7 +38,7 @@ def parser_of(main, *words):
             main([*words, '--help'])
         except Seen as seen:
             return seen.args[0]
-    raise SystemExit('man/make: no help')
+    raise SystemExit('manual_pages: no help')
 
 
 def plain(text):
@@ -105,14 +101,14 @@ def synopsis(name, parser):
 
 
 def date():
-    with open(os.path.join(HERE, 'rematch.1'), encoding='utf-8') as file:
+    with open(os.path.join(ROOT, 'man', 'rematch.1'), encoding='utf-8') as file:
         return re.search(r'^\.TH REMATCH 1 (\S+)', file.read(), re.M)[1]
 
 
 def page(name):
     main, says = PAGES[name]
     parser = parser_of(main)
-    lines = [r'.\" Written by man/make of what %s says with --help.' % name,
+    lines = [r'.\" Written by docs/make of what %s says with --help.' % name,
              '.TH %s 1 %s rematch "User Commands"' % (name.upper().replace('-', '\\-'), date()),
              '.SH NAME', '%s \\- %s' % (plain(name), says), *synopsis(name, parser), *body(parser)]
     if name == 'rematch-to':
@@ -126,24 +122,7 @@ def page(name):
     return '\n'.join(lines) + '\n'
 
 
-def main():
-    if sys.argv[1:] not in ([], ['--check']):
-        sys.exit(__doc__)
-    stale = 0
+def pages():
+    """Each page and its text."""
     for name in PAGES:
-        path, text = os.path.join(HERE, name + '.1'), page(name)
-        there = ''
-        if os.path.exists(path):
-            with open(path, encoding='utf-8') as file:
-                there = file.read()
-        if text != there:
-            stale += 1
-            print('%s: man/%s.1' % ('stale' if sys.argv[1:] else 'written', name))
-            if not sys.argv[1:]:
-                with open(path, 'w', encoding='utf-8') as file:
-                    file.write(text)
-    return 1 if stale and sys.argv[1:] else 0
-
-
-if __name__ == '__main__':
-    sys.exit(main())
+        yield 'man/%s.1' % name, page(name)
