@@ -39,7 +39,7 @@ _rematch() {
 }
 
 _rematch_to_options=$(printf '%s ' \
-    -e -q -a --words -o --quiet --filter --max-table --jobs -n --var --columns --texts --context --characters --sort --sample \
+    -e -q -a --words -r --glob --files-from --no-head -o --quiet --filter --max-table --jobs -n --var --columns --texts --context --characters --sort --sample \
     --sentence --color -C -v --line-numbers --lines --forward --iupac --sorted --strand-once --encoding --normal --frames --most-rows --expanded \
     --from-start --state --idle --version --help)
 
@@ -48,14 +48,14 @@ _rematch_to() {
     COMPREPLY=()
     case $before in
         -q) _rematch_files -X '!*.query'; return ;;
-        -o|--words|--state) _rematch_files; return ;;
+        -o|--words|--state|--files-from) _rematch_files; return ;;
         --sort) _rematch_words 'left right word'; return ;;
         --color) _rematch_words 'auto always never'; return ;;
-        -e|--max-table|--jobs|-n|--var|--columns|--context|--sample|-C|--most-rows|--idle) return ;;
+        -e|--glob|--max-table|--jobs|-n|--var|--columns|--context|--sample|-C|--most-rows|--idle) return ;;
     esac
     case $word in
         -*) _rematch_open "$_rematch_to_options" ;;
-        *) if [[ $COMP_CWORD == 1 ]]; then _rematch_words 'csv tsv kwic lines any freq bed gff fasta ann html count follow check why diff sql'; else _rematch_files; fi ;;
+        *) if [[ $COMP_CWORD == 1 ]]; then _rematch_words 'csv tsv json kwic lines any freq bed gff fasta ann html count follow check why diff sql'; else _rematch_files; fi ;;
     esac
 }
 

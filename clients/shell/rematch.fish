@@ -12,11 +12,15 @@ complete -c rematch -l explain -d 'what the query is'
 complete -c rematch -l trial -x -d 'a made document of so many lines'
 complete -c rematch -l serve -d 'answer requests on standard input'
 
-set -l forms csv tsv kwic lines any freq bed gff fasta ann html count follow check why diff sql
+set -l forms csv tsv json kwic lines any freq bed gff fasta ann html count follow check why diff sql
 complete -c rematch-to -n "not __fish_seen_subcommand_from $forms" -f -a "$forms"
 complete -c rematch-to -n 'not __fish_contains_opt -s e -s q' -s e -x -d 'the query'
 complete -c rematch-to -n 'not __fish_contains_opt -s e -s q' -s q -r -F -d 'a file that holds the query'
 complete -c rematch-to -s o -r -F -d 'write there'
+complete -c rematch-to -s r -d 'the files below each DOC that is a folder'
+complete -c rematch-to -l glob -x -d 'with -r: files of these names alone'
+complete -c rematch-to -l files-from -r -F -d 'the documents that this file names too'
+complete -c rematch-to -l no-head -d 'csv, tsv, follow, freq: no line with the names of the columns'
 complete -c rematch-to -l state -r -F -d 'csv, tsv, follow: the rows of what has come since the last run'
 complete -c rematch-to -l words -r -F -d 'csv, tsv, kwic, lines, freq, count, any, html: the words of this file in place of a query'
 complete -c rematch-to -l quiet -d 'no advice on the query and none on the documents'

@@ -64,7 +64,7 @@ def follow(command: 'Command') -> None:
     try:
         for step in _steps(command, state):
             if step is None:
-                command.out.write(table.head())
+                command.out.write('' if command.given.no_head else table.head())
             else:
                 command.out.writelines(lines_of(table, step))
             command.out.flush()

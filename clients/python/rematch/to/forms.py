@@ -7,7 +7,7 @@ from itertools import islice
 from typing import TYPE_CHECKING, Any, Dict, Iterable, Iterator, List, NoReturn, Optional, Sequence, Tuple, Type
 
 from .packed import Given
-from .tables import Context, Layout, Table, concordance, sorted_contexts
+from .tables import Context, Layout, Table, concordance, json_lines, sorted_contexts
 from .jobs import Part
 from .lines import count_lines, shown_lines
 
@@ -82,7 +82,7 @@ class _Csv(Form):
             refuse(str(reason))
 
     def head(self) -> str:
-        return self.table.head()
+        return '' if self.given.no_head else self.table.head()
 
     def of(self, found: Given) -> Iterator[str]:
         return self.limited(self.table.lines(found, self.command.rows(found)))
@@ -90,6 +90,17 @@ class _Csv(Form):
 
 class _Tsv(_Csv):
     delimiter = '\t'
+
+
+class _Json(Form):
+    def __init__(self, command: 'Command') -> None:
+        super().__init__(command)
+        twice = next((name for name in ('document', 'line') if name in self.query.variables), None)
+        if twice is not None:
+            refuse(f'each row has a member {twice}: rename the variable')
+
+    def of(self, found: Given) -> Iterator[str]:
+        return self.limited(json_lines(self.query, found, self.command.rows(found), is_texts_alone=bool(self.given.texts)))
 
 
 class Drawn:
@@ -245,7 +256,7 @@ class _Freq(Form):
 
     def end(self) -> Iterable[str]:
         from .tables import cell_of, shown_text
-        yield ','.join(['count', *self.names]) + '\n'
+        yield '' if self.given.no_head else ','.join(['count', *self.names]) + '\n'
         for texts, count in islice(sorted(self.counts.items(), key=lambda item: (-item[1], item[0])), self.given.most):
             yield ','.join([str(count), *(cell_of(shown_text(text), ',') for text in texts)]) + '\n'
 
@@ -318,6 +329,6 @@ class _Fasta(_Places):
         return fasta_lines(self.sites(found), self.query.variables)
 
 
-DOCUMENT_FORMS: Dict[str, Type[Form]] = {'csv': _Csv, 'tsv': _Tsv, 'kwic': _Kwic, 'lines': _Lines, 'count': _Count, 'freq': _Freq,
+DOCUMENT_FORMS: Dict[str, Type[Form]] = {'csv': _Csv, 'tsv': _Tsv, 'json': _Json, 'kwic': _Kwic, 'lines': _Lines, 'count': _Count, 'freq': _Freq,
                                          'bed': _Bed,
                                          'gff': _Gff, 'fasta': _Fasta}

@@ -4,8 +4,10 @@ from __future__ import annotations
 import errno
 import mmap
 import os
+import subprocess
 import sys
 import tempfile
+from shutil import which
 from typing import IO, Any, Callable, Iterator, Optional, Union
 
 from ..documents import MOST_BYTES, Document, unreadable, packed_by
@@ -18,6 +20,7 @@ __all__ = ['Given', 'given_document', 'reach_of_long', 'too_long']
 
 _COPIED = 1 << 22
 _MOST_UNPACKED = 1 << 34  # bytes that are kept in a file for a while
+_ZSTD = b'\x28\xb5\x2f\xfd'
 
 
 class Given:
@@ -80,8 +83,30 @@ def too_long(name: str) -> Exception:
     return fault
 
 
+class _Unpacked:
+    """What is packed by zstd, as that program unpacks it; an `OSError` where it says that what is packed is broken."""
+
+    def __init__(self, file: IO[bytes]) -> None:
+        self._packed = tempfile.TemporaryFile()
+        for block in iter(lambda: file.read(_COPIED), b''):
+            self._packed.write(block)
+        self._packed.seek(0)
+        self._process = subprocess.Popen(['zstd', '-dcq'], stdin=self._packed, stdout=subprocess.PIPE, stderr=subprocess.PIPE)
+
+    def read(self, most: int) -> bytes:
+        """The next bytes; none at the end."""
+        assert self._process.stdout is not None and self._process.stderr is not None
+        data = self._process.stdout.read(most)
+        if len(data) < most:
+            told = self._process.stderr.read().decode('utf-8', 'replace').strip()
+            if self._process.wait():
+                raise OSError(errno.EIO, told.rpartition(': ')[2] or 'what is packed is broken')
+        return data
+
+
 def given_document(name: str, refuse_long: Optional[Callable[[], None]] = None) -> Given:
-    """The document of that name; ``-`` is standard input. What is packed by gzip, bzip2 or xz is unpacked.
+    """The document of that name; ``-`` is standard input. What is packed by gzip, bzip2 or xz is unpacked, and
+    where zstd is installed what is packed by it.
 
     Raises `DocumentError` where it cannot be read, where what is packed is broken, or where it unpacks to more than 16 GiB.
     ``refuse_long`` is called where one run cannot take it, before more of it is unpacked, and may raise why nothing can.
@@ -96,6 +121,8 @@ def given_document(name: str, refuse_long: Optional[Callable[[], None]] = None) 
         file: IO[bytes] = sys.stdin.buffer if name == '-' else open(name, 'rb')
         head = file.peek(10)[:10] if hasattr(file, 'peek') else b''
         module = packed_by(head)
+        if head.startswith(_ZSTD) and which('zstd'):
+            return _read(name, _Unpacked(file), refuse_long)
         if module is not None:
             from importlib import import_module
             file = import_module(module).open(file)

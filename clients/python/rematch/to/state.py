@@ -211,7 +211,7 @@ def _write(command: 'Command', table: 'Table', places: Dict[str, Place], *, is_f
     """Whether there was a row."""
     has_row = False
     for line in _lines_since(command, table, places):
-        if is_first and not has_row:
+        if is_first and not has_row and not command.given.no_head:
             command.out.write(table.head())
         has_row = True
         command.out.write(line)

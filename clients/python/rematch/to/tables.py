@@ -1,6 +1,7 @@
 """Rows of many documents as one table, as a concordance, and as annotations for brat."""
 from __future__ import annotations
 
+import os
 import re
 import unicodedata
 from array import array
@@ -15,7 +16,7 @@ from ..visible import BIDI
 from .packed import Given
 from .sentences import sentence_round
 
-__all__ = ['Characters', 'Context', 'Layout', 'Table', 'concordance', 'extent_of', 'line_numbers', 'sorted_contexts',
+__all__ = ['Characters', 'Context', 'Layout', 'Table', 'concordance', 'extent_of', 'json_lines', 'line_numbers', 'sorted_contexts',
            'write_annotations']
 
 
@@ -194,6 +195,30 @@ def extent_of(row: Row) -> Optional[Tuple[int, int]]:
     return None if first is None else (first, max(row[1::2]))
 
 
+# -- JSON
+
+def json_lines(query: Query, given: Given, rows: Iterable[Row], *, is_texts_alone: bool = False) -> Iterator[str]:
+    """An object of JSON for each row, with document, line, and start, end and text of each variable, or its text alone.
+
+    >>> query = Query('/!x{a}(!y{é})?/')
+    >>> given = Given('d', Document('aé'.encode()))
+    >>> print(*json_lines(query, given, given.rows(query)), sep='', end='')
+    {"document":"d","line":1,"x":[0,1,"a"],"y":[1,3,"é"]}
+    {"document":"d","line":1,"x":[0,1,"a"],"y":null}
+    """
+    from json import dumps
+    data = given.data
+    number = line_numbers(data)  # type: ignore[arg-type]
+    for row in rows:
+        first = _first(row)
+        cells: Dict[str, Any] = {'document': shown_text(os.fsencode(given.name)), 'line': None if first is None else number(first)}
+        places = iter(row)
+        for name, start, end in zip(query.variables, places, places):
+            text = shown_text(data[start:end]) if start >= 0 else None
+            cells[name] = text if is_texts_alone or text is None else [start, end, text]
+        yield dumps(cells, ensure_ascii=False, separators=(',', ':')) + '\n'
+
+
 # -- Keyword in context
 
 class Context(NamedTuple):
@@ -224,8 +249,11 @@ def coloured(text: str) -> str:
 
 def _flat(text: str) -> str:
     """The text on one line."""
+    text = re.sub(r'\s+', ' ', text)
+    if text.isprintable():
+        return text
     return ''.join(sign if sign.isprintable() or (unicodedata.category(sign) == 'Cf' and sign not in BIDI) else '·'
-                   for sign in re.sub(r'\s+', ' ', text))
+                   for sign in text)
 
 
 def _width(sign: str) -> int:
@@ -237,6 +265,8 @@ def _width(sign: str) -> int:
 
 def _clipped(text: str, columns: int, from_end: bool) -> str:
     """The end of a text, or its beginning, of at most so many columns, filled up with blanks."""
+    if text.isascii():
+        return text[-columns:].rjust(columns) if from_end else text[:columns].ljust(columns)
     kept: List[str] = []
     left = columns
     for sign in reversed(text) if from_end else text:

@@ -5,6 +5,8 @@ import argparse
 import sys
 from typing import Any, Dict, List, NamedTuple, NoReturn, Optional, Sequence, Tuple
 
+from .names import document_names
+
 __all__ = ['FORMS', 'OTHER_FORMS', 'DIFF_EXAMPLES', 'SQL_EXAMPLES', 'Words', 'hint_of_program_words', 'hint_of_words', 'read_words']
 
 
@@ -23,6 +25,9 @@ FORMS: Dict[str, Form] = {
                 '--context. '
                 'Places count bytes from 0, with --characters characters.'),
     'tsv': Form('the same with tabs', "rematch-to tsv --texts -q failed.query auth.log | cut -f 3 | sort -u"),
+    'json': Form('an object of JSON for each row: document, line, and start, end and text of each variable',
+                 "rematch-to json -q failed.query auth.log | jq -r '.user[2]'\n\n"
+                 'Texts are as they are; bytes that are no UTF-8 are \\xhh. With --texts a variable is its text alone.'),
     'kwic': Form('a concordance of one variable', "rematch-to kwic --sort right -e '/[^\\w]!w{the}[^\\w]/' text.txt\n"
                  "rematch-to kwic -n 20 --sample 7 -e '/[^\\w]!w{the}[^\\w]/' *.txt\n\n"
                  "rematch-to kwic --sentence -e '/[^\\w]!w{tide}[^\\w]/' text.txt\n\n"
@@ -83,8 +88,8 @@ OTHER_FORMS: Dict[str, Form] = {
 """Forms that have words of their own."""
 
 _TABLES, _PLACES = ('csv', 'tsv', 'follow'), ('bed', 'gff', 'fasta')
-_JOBS = ('csv', 'tsv', 'kwic', 'lines', 'count', 'freq', *_PLACES)
-_FIRST = ('csv', 'tsv', 'kwic', 'lines', 'freq')
+_JOBS = ('csv', 'tsv', 'json', 'kwic', 'lines', 'count', 'freq', *_PLACES)
+_FIRST = ('csv', 'tsv', 'json', 'kwic', 'lines', 'freq')
 _LISTS = (*_FIRST, 'count', 'any', 'html')
 _TEXTS = (*_LISTS, 'ann', 'why')
 
@@ -102,6 +107,10 @@ def _option(name: str, forms: Sequence[str], **words: Any) -> _Option:
 _OPTIONS = (
     _option('--words', _LISTS, dest='list', metavar='FILE', help='the words of this file, one on each line, in place of a query; the variable is word'),
     _option('-o', (), dest='out', metavar='NAME', help='write there; for ann of several documents a folder'),
+    _option('-r', (), dest='is_deep', action='store_true', help='the files below each DOC that is a folder (.)'),
+    _option('--glob', (), dest='patterns', action='append', metavar='PATTERN', help='with -r: files of these names alone, as *.log'),
+    _option('--files-from', (), dest='listed', metavar='FILE', help='the documents that this file names too, one on each line'),
+    _option('--no-head', (*_TABLES, 'freq'), action='store_true', help='no line with the names of the columns'),
     _option('--quiet', (), action='store_true', help='no advice on the query and none on the documents'),
     _option('--filter', (), action='store_true', help='read only where the query touches a document'),
     _option('--max-table', (), type=int, metavar='W', help='the most that the table of a reading may weigh'),
@@ -112,7 +121,7 @@ _OPTIONS = (
                  '(all)'),
     _option('--columns', (*_TABLES, 'kwic'), metavar='A,B',
             help='tables: these columns in this order; kwic: a number, the columns on either side (35)'),
-    _option('--texts', _TABLES, action='store_true', help='document, line and the texts alone'),
+    _option('--texts', (*_TABLES, 'json'), action='store_true', help='document, line and the texts alone'),
     _option('--context', _TABLES, type=int, metavar='N',
             help='the columns left and right: so many characters around the row, or around --var'),
     _option('--sentence', ('csv', 'tsv', 'kwic'), action='store_true',
@@ -146,6 +155,10 @@ _OPTIONS = (
 _QUERY = ('The query may have comments (# to the end of the line), after the closing slash i for both cases of ASCII letters and m for ^ and $ of '
           'lines, \\b at the ends of a formula for edges of words, named parts (part ip = /[\\d.]+/; is used in a formula as %%{ip}), and words with '
           'mismatches: ~1{TATAAT} is a word with at most one letter other than these.')
+_EXAMPLES = """examples:
+  rematch-to lines -e '/Failed password for !user{\\w+} from/' auth.log
+  rematch-to freq --var user -q failed.query auth.log* | head
+  rematch-to csv -r --glob '*.log' -q failed.query /var/log >failed.csv"""
 _ABOUT = ('Write the rows of a query in many documents. Documents that are packed by gzip, bzip2 or xz are unpacked, by their '
           'content. Without '
           'a document, and as -, standard input is read. Where one of several documents cannot be read the others are, and the '
@@ -176,7 +189,7 @@ def _parser(form: Optional[str] = None) -> _Parser:
     own = FORMS[form] if form else None
     parser = _Parser(
         prog='rematch-to' + (f' {form}' if form else ''), formatter_class=argparse.RawDescriptionHelpFormatter, add_help=False,
-        description=_filled(_ABOUT if own is None else f'Write {own.what}.'),
+        description=_filled(_ABOUT) + '\n\n' + _EXAMPLES if own is None else _filled(f'Write {own.what}.'),
         epilog=_filled(_QUERY) + '\n\n' + (_list_of_forms() if own is None else _filled(own.more)))
     if own is None:
         parser.add_argument('form', help='one of the forms below; rematch-to FORM --help has its own options')
@@ -233,6 +246,12 @@ def read_words(words: Sequence[str]) -> Words:
     if given.list is not None and (given.text is not None or given.name is not None):
         parser.error('the query is given by --words or by -e or -q, and not by both')
     _refuse_numbers(parser, given)
+    try:
+        given.documents = document_names(given.documents, is_deep=given.is_deep, patterns=given.patterns or (), listed=given.listed)
+    except ValueError as fault:
+        parser.error(str(fault))
+    except OSError as fault:
+        parser.error(f'{fault.filename}: {fault.strerror}')
     return given
 
 
@@ -283,8 +302,8 @@ _OTHERS = {
     '--ignore-case': 'both cases of letters: rematch-to takes /../i, the program [Aa] for each letter',
     '-l': 'whether a document has a row: rematch-to any -e QUERY DOC; or rematch-to count -e QUERY DOC ..',
     '-v': 'lines without a match: rematch-to lines -v -e QUERY DOC', '-w': r'a whole word: [^\w] before and behind the capture',
-    '-x': r'a whole line: \n before and behind the capture', '-r': 'folders are not searched: give their files, as by find',
-    '-R': 'folders are not searched: give their files, as by find', '-E': 'drop it: the query has its own language',
+    '-x': r'a whole line: \n before and behind the capture', '-r': 'the files of folders: rematch-to csv -r -e QUERY FOLDER',
+    '-R': 'the files of folders: rematch-to csv -r -e QUERY FOLDER', '-E': 'drop it: the query has its own language',
     '-P': 'drop it: the query has its own language', '-A': 'lines around: rematch-to lines -C N -e QUERY DOC',
     '-B': 'lines around: rematch-to lines -C N -e QUERY DOC', '-C': 'lines around: rematch-to lines -C N -e QUERY DOC',
     '-H': 'the name of the document: rematch-to csv -e QUERY DOC .. has it in each row', '-m': 'at most so many rows: -n N',
