@@ -79,10 +79,10 @@ _rematch_play() {
     COMPREPLY=()
     case $before in
         -q) _rematch_files -X '!*.query'; return ;;
-        -e|--port) return ;;
+        -e|--port|--memory) return ;;
     esac
     case $word in
-        -*) _rematch_open '-e -q --port --open --help' ;;
+        -*) _rematch_open '-e -q --port --memory --open --help' ;;
         *) _rematch_files ;;
     esac
 }
@@ -90,7 +90,7 @@ _rematch_play() {
 _rematch_serve() {
     local word=${COMP_WORDS[COMP_CWORD]} before=${COMP_WORDS[COMP_CWORD-1]}
     COMPREPLY=()
-    [[ $before == --seconds ]] || _rematch_open '--seconds --version --help'
+    [[ $before == --seconds || $before == --memory ]] || _rematch_open '--seconds --memory --version --help'
 }
 
 complete -F _rematch rematch

@@ -60,10 +60,12 @@ complete -c rematch-piece -s f -x -a 'spans table json' -d 'the form of a row'
 complete -c rematch-play -n 'not __fish_contains_opt -s e -s q' -s e -x -d 'the query to begin with'
 complete -c rematch-play -n 'not __fish_contains_opt -s e -s q' -s q -r -F -d 'a file that holds it'
 complete -c rematch-play -l port -x -d 'the port'
+complete -c rematch-play -l memory -x -d 'the memory that the program may take, in megabytes'
 complete -c rematch-play -l open -d 'open the address in the browser'
 complete -c rematch-play -l help -d 'how it is used'
 
 complete -c rematch-serve -f
 complete -c rematch-serve -l seconds -x -d 'end the program where a request takes longer'
+complete -c rematch-serve -l memory -x -d 'the memory that the program may take, in megabytes'
 complete -c rematch-serve -l version -d 'which rematch-serve this is, and which program it runs'
 complete -c rematch-serve -l help -d 'how it is used'

@@ -26,9 +26,9 @@ def options():
     return re.findall(r'^\| `(--?[a-z-]+)', section, re.M)
 
 
-def options_to():
-    """The options of rematch-to, as it tells them."""
-    told = run([os.path.join(CLIENTS, 'rematch-to'), '--help']).stdout
+def options_of(command):
+    """The options of a command beside the program, as it tells them."""
+    told = run([os.path.join(CLIENTS, command), '--help']).stdout
     return [option for option in re.findall(r'^  (?:-h, )?(--?[A-Za-z-]+)', told, re.M)]
 
 
@@ -45,7 +45,7 @@ class Bash(unittest.TestCase):
         self.assertEqual(sorted(self.complete('-q', 'box.query', '--')), ['--explain', '--filter', '--max-table', '--serve', '--trial'])
         self.assertNotIn('-t', self.complete('-t', '-'))
         self.assertNotIn('-q', self.complete('-e', '/a/', '-'))
-        self.assertEqual(set(self.complete('csv', '-', command='rematch-to')), set(options_to()))
+        self.assertEqual(set(self.complete('csv', '-', command='rematch-to')), set(options_of('rematch-to')))
 
     @needs('bash')
     def test_values(self):
@@ -64,10 +64,10 @@ class Bash(unittest.TestCase):
         self.assertEqual(self.complete('csv', 'auth', command='rematch-to'), ['auth.log'])
         self.assertEqual(self.complete('box', command='rematch-piece'), ['box.query'])
         self.assertEqual(self.complete('auth', command='rematch-cut'), ['auth.log'])
-        self.assertEqual(self.complete('-', command='rematch-play'), ['-e', '-q', '--port', '--open', '--help'])
+        for command in ('rematch-play', 'rematch-serve'):
+            self.assertEqual(set(self.complete('-', command=command)), set(options_of(command)))
         self.assertEqual(self.complete('--port', '1', 'auth', command='rematch-play'), ['auth.log'])
         self.assertEqual(self.complete('-q', 'failed', command='rematch-play'), ['failed.query'])
-        self.assertEqual(self.complete('', command='rematch-serve'), ['--seconds', '--version', '--help'])
         self.assertEqual(self.complete('--seconds', '', command='rematch-serve'), [])
 
 
@@ -83,10 +83,10 @@ class Fish(Folder):
         self.assertLessEqual({option for option in options() if option.startswith('--')}, set(self.complete('rematch --')))
         self.assertLessEqual({option for option in options() if not option.startswith('--')}, set(self.complete('rematch -')))
         self.assertLessEqual({*FORMS, *OTHER_FORMS}, set(self.complete('rematch-to ')))
-        self.assertLessEqual({option for option in options_to() if option.startswith('--')}, set(self.complete('rematch-to csv --')))
+        self.assertLessEqual({option for option in options_of('rematch-to') if option.startswith('--')}, set(self.complete('rematch-to csv --')))
         self.assertIn('failed.query', self.complete('rematch -q fai'))
-        self.assertLessEqual({'--port', '--open', '--help'}, set(self.complete('rematch-play --')))
-        self.assertLessEqual({'--seconds', '--version', '--help'}, set(self.complete('rematch-serve --')))
+        for command in ('rematch-play', 'rematch-serve'):
+            self.assertLessEqual({option for option in options_of(command) if option.startswith('--')}, set(self.complete(command + ' --')))
 
 
 class Zsh(Folder):
@@ -118,7 +118,7 @@ class Zsh(Folder):
     def test_it(self):
         self.assertEqual(run(['zsh', '-n', os.path.join(SHELL, '_rematch')]).stdout, '')
         for line, words in (('rematch -f ', ['spans', 'table', 'json']), ('rematch -', options()),
-                            ('rematch-play -', ['-e', '-q', '--port', '--open']), ('rematch-serve -', ['--seconds', '--version'])):
+                            *((command + ' -', options_of(command)) for command in ('rematch-play', 'rematch-serve'))):
             shown = self.complete(line, words)
             for word in words:
                 self.assertIn(word, shown)
