@@ -15,6 +15,7 @@ from rematch.to.convert import main as to_main  # noqa: E402
 from rematch.to.piece import cut_main, piece_main  # noqa: E402
 from rematch.to.play import main as play_main  # noqa: E402
 from rematch.to.relay import main as serve_main  # noqa: E402
+from rematch.to.words import OTHER_FORMS  # noqa: E402
 
 PAGES = {
     'rematch-to': (to_main, 'rows of queries as tables, concordances, pages and counts'),
@@ -83,13 +84,14 @@ def body(parser):
     actions = [action for action in parser._actions if action.help != argparse.SUPPRESS]
     words = [action for action in actions if not action.option_strings]
     options = [action for action in actions if action.option_strings]
-    lines = ['.SH DESCRIPTION', *paragraphs(parser.description)[1:]]
+    said, _, examples = (parser.description or '').partition('\n\nexamples:')
+    lines = ['.SH DESCRIPTION', *paragraphs(said)[1:]]
     for action in words:
         lines += option(action)
     lines.append('.SH OPTIONS')
     for action in options:
         lines += option(action)
-    return lines + paragraphs(parser.epilog)
+    return lines + paragraphs(examples and 'examples:' + examples) + paragraphs(parser.epilog)
 
 
 def synopsis(name, parser):
@@ -111,12 +113,12 @@ def page(name):
     lines = [r'.\" Written by docs/make of what %s says with --help.' % name,
              '.TH %s 1 %s rematch "User Commands"' % (name.upper().replace('-', '\\-'), date()),
              '.SH NAME', '%s \\- %s' % (plain(name), says), *synopsis(name, parser), *body(parser)]
-    if name == 'rematch-to':
-        sql = parser_of(main, 'sql')
-        lines += ['.SH "REMATCH\\-TO SQL"', *paragraphs(sql.description)[1:]]
-        for action in sql._actions:
+    for form in OTHER_FORMS if name == 'rematch-to' else ():
+        own = parser_of(main, form)
+        lines += ['.SH "REMATCH\\-TO %s"' % form.upper(), *paragraphs(own.description)[1:]]
+        for action in own._actions:
             lines += option(action)
-        lines += paragraphs(sql.epilog)
+        lines += paragraphs(own.epilog)
     others = ['rematch', *(other for other in PAGES if other != name)]
     lines += ['.SH "SEE ALSO"', *('.BR %s (1)%s' % (plain(other), ',' * (other != others[-1])) for other in others)]
     return '\n'.join(lines) + '\n'
