@@ -21,4 +21,3 @@ pub mod PassingJoins
 pub mod PassingPages
 pub mod TakingLaws
 pub mod Answered
-pub mod RemainingLaws

@@ -20,7 +20,7 @@ use note_texts::{FixedNote, Note, NoteLine, Outcome};
 use rm_outside::{Sink, SinkFailed, Status};
 use span_core::{OutOfMemory, Row, Steps, VarSet};
 use span_tests::Judge;
-use spanner_engine::{MOST_ENDS, TestedRows};
+use spanner_engine::TestedRows;
 use std::alloc::Global;
 use std::sync::ledger::Ledger;
 
@@ -135,7 +135,6 @@ fn put_rows<O: Sink, J: Judge, L: Ledger>(
 {
     let mut some = false;
     let mut remaining = Remaining::of(limit);
-    let takes_ends = page.takes_ends();
     while remaining.take_one() {
         if !rows.advance(steps) {
             return Ok(PageEnd {
@@ -147,40 +146,10 @@ fn put_rows<O: Sink, J: Judge, L: Ledger>(
             return Err(fault);
         }
         some = true;
-        if takes_ends {
-            if let Err(fault) = put_runs(page, &mut remaining, rows, out, steps) {
-                return Err(fault);
-            }
-        }
     }
     let last = last_row(some, rows);
     let more = rows.advance(steps);
     Ok(PageEnd { last, more })
-}
-
-/// Takes the rows that differ from the one that was gone to in the end of one span alone, up to the limit, many at once, and puts
-/// their lines or lets them wait.
-fn put_runs<O: Sink, J: Judge, L: Ledger>(
-    page: &mut PageWriter<'_>,
-    remaining: &mut Remaining,
-    rows: &mut TestedRows<'_, J>,
-    out: &mut O,
-    steps: &mut Steps<L>,
-) -> Result<(), PageFault> {
-    let mut ends = [0; MOST_ENDS];
-    let mut full = true;
-    while full {
-        let run = rows.advance_ends(&mut ends, remaining.at_most(MOST_ENDS), steps);
-        if run.count == 0 {
-            return Ok(());
-        }
-        remaining.take(run.count);
-        if let Err(fault) = page.put_ends(rows.spans(), run.place, &ends[..run.count], out) {
-            return Err(fault);
-        }
-        full = run.count == MOST_ENDS;
-    }
-    Ok(())
 }
 
 /// The row that was gone to last, if some row was.
