@@ -44,6 +44,15 @@ module _ (out : Change) (end : Status) (note : List ℕ) (old mid new : ℕ) (te
   page_earlier (write_failed is failed part took) = write_failed is failed part (then_ took)
   page_earlier (out_of_memory is part took) = out_of_memory is part (then_ took)
 
+-- what trying answers takes is within what is stated
+tries_within : (n v t now next : ℕ) (found : Bool) → next ≤ now + trying_steps v t n found → next ≤ now + (n * (next_steps v + t) + (if found then 0 else next_steps v))
+tries_within n v t now next true h =
+    let e : n * (next_steps v + t) ≡ n * (2 * v + t) + n * (2 * v + 4) = omega arith in
+    omega (arith, e, h)
+tries_within n v t now next false h =
+    let e : n * (next_steps v + t) ≡ n * (2 * v + t) + n * (2 * v + 4) = omega arith in
+    omega (arith, e, h)
+
 -- ---- what going further did, told of what the rows were first taken from
 
 module _ {s t : Source} (same : t ≡ s) where
@@ -59,7 +68,9 @@ module _ {s t : Source} (same : t ≡ s) where
 
   pub tries : (old new : List SpanRow) (now next : ℕ) (found : Bool) → next ≤ now + trying_steps (length t.names) (length t.asked) (length old - length new) found →
       next ≤ now + ((length old - length new) * (next_steps (length s.names) + length s.asked) + (if found then 0 else next_steps (length s.names)))
-  tries old new now next found h = rw (← same) h
+  tries old new now next found h =
+      let here : next ≤ now + trying_steps (length s.names) (length s.asked) (length old - length new) found = rw (← same) h in
+      tries_within (length old - length new) (length s.names) (length s.asked) now next found here
 
 -- one list ends in a second, and that in a third
 pub ends_on : {xs ys : List SpanRow} (zs : List SpanRow) → EndsIn xs ys → EndsIn ys zs → EndsIn xs zs
