@@ -8,16 +8,16 @@ ghost use Rattle.query_parser.specs.Reads.{is_among};
 ghost use Rattle.query_parser.specs.Nest.{find};
 ghost use Rattle.query_parser.specs.Numbers.{Numbers};
 
-use indexmap::IndexMap;
 use span_core::{Name, OutOfMemory};
 use spanner_model::{Expr, Lets};
 use std::alloc::Global;
+use std::collections::BTreeMap;
 
 /// Lets in order. Each is found by its name.
 #[derive(Drop)]
 pub(crate) struct Named {
     pub(crate) lets: Lets,
-    numbers: IndexMap<Name, u32>,
+    numbers: BTreeMap<Name, u32>,
     ghost told: { Numbers numbers (names_of (lets_of lets)) },
 }
 
@@ -27,7 +27,7 @@ impl Named {
     {
         Named {
             lets: Lets::new(alloc),
-            numbers: IndexMap::new(alloc),
+            numbers: BTreeMap::new(alloc),
         }
     }
 
