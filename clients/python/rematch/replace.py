@@ -23,12 +23,12 @@ def _template(text: str, names: Tuple[str, ...]) -> Callable[[Match[Any]], Any]:
     >>> _template('[\\1]', ('x',))
     Traceback (most recent call last):
       ...
-    ValueError: a backslash stands in \g<NAME> and in \\ alone, and not as \1; variables have names, and no numbers
+    ValueError: a backslash is only in \g<NAME> and in \\, and not as \1; variables have names, and no numbers
     """
     rest = _GROUP.sub('', text)
     if '\\' in rest:
         at = rest.index('\\')
-        raise ValueError(rf'a backslash stands in \g<NAME> and in \\ alone, and not as {rest[at:at + 2]}; '
+        raise ValueError(rf'a backslash is only in \g<NAME> and in \\, and not as {rest[at:at + 2]}; '
                          'variables have names, and no numbers')
     for found in _GROUP.finditer(text):
         if found[1] is not None and found[1] not in names:

@@ -317,5 +317,5 @@ def _plain_mismatches(node: Concatenation) -> Iterator[Advice]:
             digit, times = repeat.inner.text, repeat.least
             if digit.isdigit() and repeat.most == times and repeat.inner.end < repeat.end:
                 shown = f'~{digit.decode()}{{{times}}}'
-                yield Advice(sign.start, f'{shown} is a ~ and {times} times the sign {digit.decode()}: a word with mismatches that has digits alone begins '
-                                         f'with a class, as ~{digit.decode()}{{[{str(times)[0]}]{str(times)[1:]}}}')
+                yield Advice(sign.start, f'{shown} is a ~ and {times} times the character {digit.decode()}: begin a word of digits with a '
+                                         f'class, as ~{digit.decode()}{{[{str(times)[0]}]{str(times)[1:]}}}')

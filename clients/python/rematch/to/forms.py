@@ -270,7 +270,7 @@ class _Places(Form):
         from .sequences import has_anchor
         super().__init__(command)
         if has_anchor(self.query):
-            raise NoReach(r'an anchor would speak of all records together: a record has \n before it and behind it')
+            raise NoReach(r'an anchor would be of all records together: a record has \n before it and after it')
 
     def sites(self, found: Given) -> Iterator['Site']:
         """The sites of a document, by record and place where that is asked for."""

@@ -189,7 +189,7 @@ def sites(query: Query, data: bytes, *, both: bool = True, left_out: Optional[Ca
     [('chr1', '+', (2, 6)), ('chr2', '-', (1, 5))]
     """
     if has_anchor(query):
-        raise NoReach(r'an anchor would speak of all records together: a record has \n before it and behind it')
+        raise NoReach(r'an anchor would be of all records together: a record has \n before it and after it')
     lost = 0
     for strand in '+-' if both else '+':
         for batch in _batches(each_record(data)):

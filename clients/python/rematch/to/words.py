@@ -127,12 +127,12 @@ _OPTIONS = (
     _option('--sentence', ('csv', 'tsv', 'kwic'), action='store_true',
             help='the sentence round the row, or round --var; in tables the columns left and right'),
     _option('--characters', _TABLES, action='store_true', help='places count characters'),
-    _option('--sort', ('kwic',), choices=['left', 'right', 'word'], help='by the words before, behind, or by the text itself'),
+    _option('--sort', ('kwic',), choices=['left', 'right', 'word'], help='by the words before, after, or by the text itself'),
     _option('--sample', ('kwic',), type=int, metavar='SEED',
             help='draw the -n lines by chance, the same ones for the same number'),
     _option('--color', ('lines', 'kwic'), choices=['auto', 'always', 'never'],
             help='colour for what was found (auto: on a terminal)'),
-    _option('-C', ('lines',), dest='around', type=int, metavar='N', help='so many lines before and behind, too'),
+    _option('-C', ('lines',), dest='around', type=int, metavar='N', help='so many lines before and after, too'),
     _option('-v', ('lines',), dest='others', action='store_true', help='the lines that no row touches'),
     _option('--line-numbers', ('lines',), action='store_true', help='the number of each line before it'),
     _option('--lines', ('count',), action='store_true', help='count the lines that a row touches'),
@@ -275,7 +275,7 @@ def _refuse_numbers(parser: _Parser, given: Words) -> None:
     if given.sample is not None and given.most is None:
         parser.error('--sample draws so many lines as -n says: give -n N too')
     if given.sentence and (given.context is not None or (given.form == 'kwic' and given.columns is not None)):
-        parser.error(f'--sentence and {"--columns" if given.context is None else "--context"} both say what stands around: give one of them')
+        parser.error(f'--sentence and {"--columns" if given.context is None else "--context"} both say what is around: give one of them')
     if given.texts and given.columns is not None:
         parser.error('--texts and --columns both say which columns there are: give one of them')
 
@@ -301,8 +301,10 @@ _OTHERS = {
     '-i': 'both cases of letters: rematch-to takes /../i, the program [Aa] for each letter',
     '--ignore-case': 'both cases of letters: rematch-to takes /../i, the program [Aa] for each letter',
     '-l': 'whether a document has a row: rematch-to any -e QUERY DOC; or rematch-to count -e QUERY DOC ..',
-    '-v': 'lines without a match: rematch-to lines -v -e QUERY DOC', '-w': r'a whole word: [^\w] before and behind the capture',
-    '-x': r'a whole line: \n before and behind the capture', '-r': 'the files of folders: rematch-to csv -r -e QUERY FOLDER',
+    '-v': 'lines without a match: rematch-to lines -v -e QUERY DOC',
+    '-w': r'a whole word: rematch-to reads /\b!word{..}\b/, the program has [^\w] before and after the capture',
+    '-x': r'a whole line: rematch-to reads /^!line{..}$/m, the program has \n before and after the capture',
+    '-r': 'the files of folders: rematch-to csv -r -e QUERY FOLDER',
     '-R': 'the files of folders: rematch-to csv -r -e QUERY FOLDER', '-E': 'drop it: the query has its own language',
     '-P': 'drop it: the query has its own language', '-A': 'lines around: rematch-to lines -C N -e QUERY DOC',
     '-B': 'lines around: rematch-to lines -C N -e QUERY DOC', '-C': 'lines around: rematch-to lines -C N -e QUERY DOC',
@@ -318,7 +320,7 @@ _QUERY_FIRST = 'the query is given by -e TEXT or -q NAME, and not as a word alon
 
 
 def _looks_like_a_query(word: str) -> bool:
-    return len(word) > 1 and word.startswith('/') and word.rstrip('ui').endswith('/') or any(sign in word for sign in '!*\\[({|')
+    return len(word) > 1 and word.startswith('/') and word.rstrip('imu').endswith('/') or any(sign in word for sign in '!*\\[({|')
 
 
 def _split(words: Sequence[str]) -> Tuple[List[Tuple[str, Optional[str]]], List[str]]:
@@ -364,7 +366,7 @@ def hint_of_program_words(words: Sequence[str]) -> Optional[str]:
     if twice is not None:
         return f'{twice} is given once'
     if '--serve' in names:
-        return None if len(words) == 1 else '--serve stands alone'
+        return None if len(words) == 1 else '--serve has no other words'
     if '-e' in names and '-q' in names:
         return 'the query is given by -e or by -q, and not by both'
     if '-e' not in names and '-q' not in names:
