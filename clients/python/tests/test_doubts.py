@@ -150,6 +150,13 @@ class Sequences(Folder):
             self.assertIn('list those of', told)
         self.assertEqual(asked('bed', '--iupac', '-e', '/!x{R**}/', path)[2].split('\n')[:2], ['query: repeat after repeat at 6', '  /!x{R**}/'])
         self.assertEqual(asked('check', '--iupac', '--expanded', '-e', '/!RY{[R]GATC}/')[:2], (0, '/!RY{[AGR]GATC}/\n'))
+        for query, wanted in (('[-R]', r'[AG\-R]'), ('[^-R]', r'[^ABDGHKMNSVW\-R]'), ('[ST]', '[BCGKUYST]'), ('[RAT]', '[DGKUWRAT]'), ('[AST]', None), ('[ACGT]', '[ACGT]'),
+                              ('[AT]', '[AT]')):
+            found = asked('check', '--iupac', '--expanded', '-e', '/!x{%s}/' % query)[1]
+            self.assertEqual(found, '/!x{%s}/\n' % (wanted or found[4:-3]))
+        records = self.file('k.fa', b'>r\nACKWY-GN\n')
+        for query, wanted in (('[-R]', [0, 5, 6]), ('[ST]', [1, 2, 4, 6]), ('[RAT]', [0, 2, 3, 6])):
+            self.assertEqual([int(line.split('\t')[1]) for line in asked('bed', '--forward', '--quiet', '--iupac', '-e', '/!x{%s}/' % query, records)[1].splitlines()], wanted, query)
         self.assertIn('--iupac reads those of the query as nucleotides', asked('bed', '--iupac', '--forward', '-e', '/!x{M}/', self.file('p', PROTEIN))[2])
 
     def test_open_letters_in_classes(self):

@@ -78,6 +78,26 @@ class Written(unittest.TestCase):
             found = {match['x'] for match in rematch.Query(text('/ !x{%s} /i' % formula)).finditer(data)}
             self.assertEqual(found, {word for word in re.findall(r'(?<= )(?:%s)(?= )' % formula, data, re.I)}, formula)
 
+    def test_lines_and_words(self):
+        for query, wanted in (('/^a$/m', r'(/^a$/ union /^a\n/ union /\na$/ union /\na\n/)'), ('/a$/mi', r'(/[Aa]$/ union /[Aa]\n/)'),
+                              ('/^a|b/um', r'(/^a|b/u union /\n(a|b)/u)'), ('/a/m', '/a/'), (r'/\ba/', r'(/^a/ union /[^\w]a/)'),
+                              (r'/!x{\w+\b}/', r'(/!x{\w+}$/ union /!x{\w+}[^\w]/)'), (r'/^\ba/', '/^a/'), (r'/a\b$/m', r'(/a$/ union /a\n/)'),
+                              (r'/\ba|b/', r'(/^a/ union /[^\w]a/ union /b/)'), (r'part w = /\b\w+\b/; /!x{%{w}}/', r'(/^!x{(\w+)}$/ union /^!x{(\w+)}[^\w]/ union '
+                              r'/[^\w]!x{(\w+)}$/ union /[^\w]!x{(\w+)}[^\w]/)'), (r'let w = /\b!x{a}/; w join /!x{.}/', r'let w = (/^!x{a}/ union /[^\w]!x{a}/); w join /!x{.}/')):
+            self.assertEqual(text(query), wanted)
+            rematch.Query(wanted)
+        for query, at in ((r'/a\bb/', 2), (r'/(\ba|b)c/', 2), (r'/\b*a/', 1), (r'part w = /\ba/; /x%{w}/', 18), ('part w = /^a/; /%{w}/', 10), ('part w = /a/m; /%{w}/', 12),
+                          (r'/[\b]/', 2), (r'/~1{a\bc}/', 5)):
+            with self.assertRaises(rematch.QueryError) as caught:
+                expand.expanded(query)
+            self.assertEqual(caught.exception.offset, at, query)
+
+    def test_a_repeat_that_looks_like_a_word(self):
+        for query, at, part in (('/!x{~1{911}}/', 4, '~1{[9]11}'), ('/a~2{3}/', 2, '~2{[3]}'), ('/~1{2,3}/', None, ''), ('/~1{[9]11}/', None, ''), ('/~{3}/', None, '')):
+            found = expand.expanded(query).advice
+            self.assertEqual([(advice.offset, part in advice.message) for advice in found], [] if at is None else [(at, True)], query)
+        self.assertIn('911 times', asked('csv', '-e', '/!x{~1{911}}/', self.file('d', b'912') if hasattr(self, 'file') else os.devnull)[2])
+
     def test_parts(self):
         for query, wanted in ((r'part ip = /[\d.]+/; /from !a{%{ip}} to !b{%{ip}}/', r'/from !a{([\d.]+)} to !b{([\d.]+)}/'),
                               ('part x = /a|b/;\npart y = /%{x}c/;\nlet z = /%{y}{2}/; z', 'let z = /((a|b)c){2}/; z'),

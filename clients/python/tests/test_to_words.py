@@ -84,6 +84,20 @@ class Wrong(Folder):
                       ('-e', '/a/', '--trial', '7'), ('-q', '-', 'd'), ('--filter', '--max-table=5', '-e', '/a/', '--', '-d')):
             self.assertIsNone(to_words.hint_of_program_words(words), words)
 
+    def test_check_is_the_mirror_of_the_program(self):
+        """What the program refuses check refuses, and it writes into no file."""
+        path = self.file('out', b'kept')
+        status, out, told = asked('check', '-o', path, '-e', '/!x{a}/')
+        self.assertEqual((status, out, 'standard output' in told), (2, '', True))
+        with open(path, 'rb') as file:
+            self.assertEqual(file.read(), b'kept')
+        for words, wanted in ((('-a', 'c2:5'), 7), (('-a', 'nothing'), 7), (('-a', 'start'), 0), (('-a', 'c2:5;x:0-1'), 0),
+                              (('-a', 'c2:5;x:0-1', path), 7), (('-a', 'c2:4;x:0-1', path), 0), ((path + '_',), 5)):
+            self.assertEqual(asked('check', '-e', '/!x{a}/', *words)[0], wanted, words)
+        for query, is_told in (('/!x{a}/i', True), ('/!x{a}/ # one', True), ('part p = /a/; /!x{%{p}}/', True), ('/^!x{a}/m', True), ('/!x{a}/', False)):
+            self.assertEqual('the program reads no' in asked('check', '-e', query)[1], is_told, query)
+        self.assertIn('-q words.txt', asked('csv', '-f', 'words.txt')[2])
+
     def test_check_takes_the_words_of_the_program(self):
         plain = asked('check', '-e', '/!x{a}/')
         self.assertEqual(asked('check', '-f', 'json', '-n', '2', '-t', '-e', '/!x{a}/', self.file('d', 'a')), plain)

@@ -366,7 +366,7 @@ def hint_of_program_words(words: Sequence[str]) -> Optional[str]:
     if twice is not None:
         return f'{twice} is given once'
     if '--serve' in names:
-        return None if len(words) == 1 else '--serve has no other words'
+        return None if len(words) == 1 else '--serve is given alone'
     if '-e' in names and '-q' in names:
         return 'the query is given by -e or by -q, and not by both'
     if '-e' not in names and '-q' not in names:
