@@ -140,7 +140,7 @@ class _Opened(NamedTuple):
     found: Given
     piece: None = None
 
-    def given(self) -> Given:
+    def given(self, refuse_long: Any = None) -> Given:
         return self.found
 
 
