@@ -61,6 +61,41 @@ so_far_part old mid new waiting line left left' whole s is p =
     part_more old.bytes new.bytes (s.sent ++ (waiting ++ line)) left' (part_after old.bytes mid.bytes new.bytes s.sent (waiting ++ line) s.adds p) in
     rw (← whole_is) part
 
+-- a text that is gone on with where it was left
+pub so_far_on : {old mid : Flow} (new : Flow) {waiting waiting' left left' more more' whole : List ℕ} → more ≡ left → more' ≡ left'
+    → SoFar (change old mid) waiting left whole → SoFar (change mid new) waiting' more' (waiting ++ more) → SoFar (change old new) waiting' left' whole
+so_far_on {old} {mid} new {waiting} {waiting'} same same' s t = record {
+  sent = s.sent ++ t.sent;
+  adds = Appends-trans old.bytes mid.bytes new.bytes s.sent t.sent s.adds t.adds;
+  joined =
+      append_assoc s.sent t.sent _
+      ∙ ap (λ xs. s.sent ++ xs) (ap (λ ys. t.sent ++ (waiting' ++ ys)) (sym same') ∙ t.joined ∙ ap (λ ys. waiting ++ ys) same)
+      ∙ s.joined;
+}
+
+-- and where that is cut off
+pub so_far_cut : {old mid : Flow} (new : Flow) {waiting left more whole : List ℕ} → more ≡ left → SoFar (change old mid) waiting left whole
+    → AddsPart (change mid new) (waiting ++ more) → AddsPart (change old new) whole
+so_far_cut {old} {mid} new {waiting} {left} {more} {whole} same s part =
+    so_far_part old mid new waiting more left [] whole s (sym same ∙ sym (append-nil more)) part
+
+-- lines at the front of a text are passed on
+pub so_far_of : {old new : Flow} {waiting line waiting' left : List ℕ} (whole : List ℕ) → whole ≡ line ++ left → Passes waiting line waiting' (change old new)
+    → SoFar (change old new) waiting' left (waiting ++ whole)
+so_far_of {waiting = waiting} {line} {waiting'} {left} whole is p = record {
+  sent = p.sent;
+  adds = p.adds;
+  joined = sym (append_assoc p.sent waiting' left) ∙ ap (λ xs. xs ++ left) p.joined ∙ append_assoc waiting line left ∙ ap (λ xs. waiting ++ xs) (sym is);
+}
+
+-- or not whole
+pub part_of : (old new : Flow) (waiting line left whole : List ℕ) → whole ≡ line ++ left → AddsPart (change old new) (waiting ++ line)
+    → AddsPart (change old new) (waiting ++ whole)
+part_of old new waiting line left whole is part =
+    let more : AddsPart (change old new) ((waiting ++ line) ++ left) = part_more old.bytes new.bytes (waiting ++ line) left part in
+    let same : (waiting ++ line) ++ left ≡ waiting ++ whole = append_assoc waiting line left ∙ ap (λ xs. waiting ++ xs) (sym is) in
+    rw (← same) more
+
 -- what a line passed on, and then all that waited
 pub passes_whole : {old mid : Flow} (new : Flow) {waiting line left : List ℕ}
     → Passes waiting line left (change old mid) → Adds (change mid new) left → Adds (change old new) (waiting ++ line)

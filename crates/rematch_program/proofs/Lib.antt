@@ -4,6 +4,8 @@ pub mod FetchedLaws
 pub mod Completeness
 pub mod CountedAtoms
 pub mod Fits
+pub mod EndLines
+pub mod EndRows
 pub mod Gathers
 pub mod HeavyAtoms
 pub mod Inside
@@ -13,6 +15,7 @@ pub mod QueryLaws
 pub mod RestLaws
 pub mod ResultNames
 pub mod ResumeLaws
+pub mod Runs
 pub mod SummaryLaws
 pub mod WorkedLaws
 pub mod Writing
@@ -21,3 +24,4 @@ pub mod PassingJoins
 pub mod PassingPages
 pub mod TakingLaws
 pub mod Answered
+pub mod RemainingLaws

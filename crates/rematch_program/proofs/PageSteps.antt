@@ -23,7 +23,7 @@ use Rattle.rematch_program.specs.Steps.{next_steps}
 use Rattle.rematch_program.specs.Taking.{PageTakes}
 use Rattle.rematch_program.proofs.Inside.{fits_of}
 use Rattle.rematch_program.proofs.PassingPages.{length_checks}
-use Rattle.rematch_program.proofs.TakingLaws.{page_takes, steps_ended, steps_found}
+use Rattle.rematch_program.proofs.TakingLaws.{page_takes, steps_ended, steps_found, steps_runs}
 
 pub first_of_none : (limit : Option ℕ) → first_rows limit [] ≡ []
 first_of_none None = refl
@@ -134,6 +134,15 @@ module _ {s t : Source} (same : t ≡ s) (all old new : List SpanRow) (ends : En
       let here = rw is at took in
       steps_found (length all) (length old) (length new) (next_steps (length s.names) + length s.asked) start mid next (ends_long old new then_) (ends_long all old ends) first
       (tries same old new mid next true here)
+
+  -- and a run of rows behind it
+  pub took_runs : (found : Bool) (after : List SpanRow) (end : ℕ) → found ≡ true → next ≤ mid + trying_steps (length t.names) (length t.asked) (length old - length new) found
+      → length new < length old → EndsIn new after → end ≤ next + (4 * (length new - length after) + 2) → end ≤ start + (length all - length after) * (next_steps (length s.names) + length s.asked)
+  took_runs found after end is took fewer then_after runs =
+      let here : next ≤ mid + trying_steps (length t.names) (length t.asked) (length old - length new) true = rw is at took in
+      let told : next ≤ mid + trying_steps (length s.names) (length s.asked) (length old - length new) true = rw (← same) here in
+      steps_runs (length all) (length old) (length new) (length after) (length s.names) (length s.asked) start mid next end (ends_long new after then_after) fewer
+      (ends_long all old ends) first told runs
 
   pub took_none : (found : Bool) → found ≡ false → new ≡ [] → next ≤ mid + trying_steps (length t.names) (length t.asked) (length old - length new) found →
       next ≤ start + length all * (next_steps (length s.names) + length s.asked) + next_steps (length s.names)

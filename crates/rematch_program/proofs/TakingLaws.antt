@@ -1,5 +1,5 @@
 -- What taking rows costs, by the answers that were tried.
-use Rattle.std.proofs.Common.{◌≡◌, ℕ, ◌+◌, ◌-◌, ◌*◌, ◌≤◌, Bool, true, false, List, [], ◌∷◌, ◌++◌, length, take, if◌then◌else◌, refl, ap, ◌∙◌, arith, length-append}
+use Rattle.std.proofs.Common.{◌≡◌, ℕ, ◌+◌, ◌-◌, ◌*◌, ◌<◌, ◌≤◌, Bool, true, false, List, [], ◌∷◌, ◌++◌, length, take, if◌then◌else◌, refl, ap, ◌∙◌, arith, length-append}
 use Rattle.spanner_model.specs.Captures.{VarName}
 use Rattle.spanner_model.specs.Answers.{SpanRow}
 use Rattle.spanner_model.specs.Passing.{Check, passing}
@@ -94,6 +94,30 @@ next_tries all before after U le few =
 
 pub steps_found : (all before after U old mid new : ℕ) → after ≤ before → before ≤ all → mid ≤ old + (all - before) * U → new ≤ mid + ((before - after) * U + 0) → new ≤ old + (all - after) * U
 steps_found all before after U old mid new le few first next = let e = next_tries all before after U le few in omega (arith, e, first, next)
+
+steps_unit : (n v t : ℕ) → 1 ≤ n → n * (2 * v + t) + 2 ≤ n * (next_steps v + t)
+steps_unit n v t l =
+    let e : n * (next_steps v + t) ≡ n * (2 * v + t) + (n * (2 * v) + 4 * n) = omega arith in
+    omega (arith, e, l)
+
+steps_four : (n v t : ℕ) → 4 * n ≤ n * (next_steps v + t)
+steps_four n v t = let e : n * (next_steps v + t) ≡ 4 * n + n * (4 * v + t) = omega arith in omega (arith, e)
+
+-- a run of rows behind the next one, each of which takes no more than four steps, and one look more two
+pub steps_runs : (all before mid after v t old s0 s1 s2 : ℕ) → after ≤ mid → mid < before → before ≤ all → s0 ≤ old + (all - before) * (next_steps v + t)
+    → s1 ≤ s0 + ((before - mid) * (2 * v + t) + 0) → s2 ≤ s1 + (4 * (mid - after) + 2) → s2 ≤ old + (all - after) * (next_steps v + t)
+steps_runs all before mid after v t old s0 s1 s2 low lt few first next run =
+    let U : ℕ = next_steps v + t in
+    let D : ℕ = before - mid in
+    let E : ℕ = mid - after in
+    let one : 1 ≤ D = omega (arith, lt) in
+    let le : mid ≤ before = omega (arith, lt) in
+    let sum : (all - before) * U + D * U ≡ (all - mid) * U = next_tries all before mid U le few in
+    let in_all : mid ≤ all = omega (arith, lt, few) in
+    let sum' : (all - mid) * U + E * U ≡ (all - after) * U = next_tries all mid after U low in_all in
+    let each : D * (2 * v + t) + 2 ≤ D * U = steps_unit D v t one in
+    let runs : 4 * E ≤ E * U = steps_four E v t in
+    omega (arith, sum, sum', each, runs, first, next, run)
 
 pub steps_ended : (all before N U old mid new : ℕ) → before ≤ all → mid ≤ old + (all - before) * U → new ≤ mid + ((before - 0) * U + N) → new ≤ old + all * U + N
 steps_ended all before N U old mid new few first next =

@@ -1,15 +1,17 @@
 -- A page that is written line by line.
-use Rattle.std.proofs.Common.{◌≡◌, ℕ, Bool, List, [], ◌∷◌, ◌++◌, Option, length, sym, ap, ◌∙◌, subst}
+use Rattle.std.proofs.Common.{◌≡◌, ℕ, Bool, false, List, [], ◌∷◌, ◌++◌, Option, None, get_or, length, refl, sym, ap, ap₂, ◌∙◌, subst, length-set}
+use Rattle.std.proofs.lemmas.List.Concat.{flat_map-cons}
 use Rattle.std.specs.Prelude.{nat_lt}
 use Rattle.command_line.specs.RequestView.{RequestView}
+use Rattle.enumerator.specs.Ends.{row_to, rows_to, span_to}
 use Rattle.rm_outside.specs.Change.{change, AddsPart}
 use Rattle.rm_outside.specs.Flow.{Flow}
 use Rattle.row_writer.specs.Kept.{Line, kept_text}
 use Rattle.spanner_model.specs.Captures.{VarName}
 use Rattle.spanner_model.specs.Answers.{SpanRow}
 use Rattle.spanner_engine.specs.Left.{RowsLeft, Source}
-use Rattle.rematch_program.specs.Kept.{kept_of}
-use Rattle.rematch_program.specs.Pages.{FitsIf, FitsPage, cursor_given, last_note, page_text}
+use Rattle.rematch_program.specs.Kept.{ends_text, kept_of}
+use Rattle.rematch_program.specs.Pages.{FitsIf, FitsPage, cursor_given, last_note, page_text, row_text}
 use Rattle.rematch_program.specs.Taking.{page_rows, whole_text}
 use Rattle.rematch_program.specs.Work.{Passes, SoFar}
 use Rattle.rematch_program.specs.Written.{EndsPage, Fits, IsOver, Page, line_of, lines_of, page_begun, with_waiting}
@@ -25,6 +27,18 @@ module _ (p : Page) {kept : Line} (is : kept ≡ kept_of p.form p.names) {row : 
 
   pub row_line : kept_text kept row p.document p.texts ≡ line_of p row
   row_line = kept_row p.form p.texts p.names p.document row kept is fits.lengths
+
+  -- the lines of rows that differ in an end
+  pub ends_lines : p.texts ≡ false → (place : ℕ) (ends : List ℕ) → ends_text kept row place p.document ends ≡ lines_of p (rows_to row place ends)
+  ends_lines bare place [] = refl
+  ends_lines bare place (at ∷ ends) =
+      let wide : length (row_to row place at) ≡ length p.names = length-set row place (span_to (get_or row place None) at) ∙ fits.lengths in
+      let line : kept_text kept (row_to row place at) p.document false ≡ line_of p (row_to row place at) =
+      kept_row p.form false p.names p.document (row_to row place at) kept is wide
+      ∙ ap (λ (texts : Bool). row_text p.form texts p.names p.document (row_to row place at)) (sym bare) in
+      flat_map-cons (λ (end : ℕ). kept_text kept (row_to row place end) p.document false) at ends
+      ∙ ap₂ (λ (xs ys : List ℕ). xs ++ ys) line (ends_lines bare place ends)
+      ∙ sym (flat_map-cons (line_of p) (row_to row place at) (rows_to row place ends))
 
 -- ---- it begins
 
@@ -85,6 +99,16 @@ module _ (first : Page) {before : Page} (same : before ≡ with_waiting before.w
     line_cut part =
         so_far_part old mid new before.waiting (line_of first row) (lines_of first rows) (lines_of first rest) whole so_far (lines_next (line_of first) rows rest row front)
         (rw (← line_now) part)
+
+-- a page of which other bytes wait is over the same, and the same rows fit it
+pub over_now : (first : Page) {now : Page} {s t : Source} → now ≡ with_waiting now.waiting first → t ≡ s → IsOver first s → IsOver now t
+over_now first same source over = record {
+  names = ap (λ (p : Page). p.names) same ∙ over.names ∙ ap (λ (u : Source). u.names) (sym source);
+  document = ap (λ (p : Page). p.document) same ∙ over.document ∙ ap (λ (u : Source). u.document) (sym source);
+}
+
+pub fits_then : (first : Page) {now : Page} {row : SpanRow} → now ≡ with_waiting now.waiting first → Fits now row → Fits first row
+fits_then first {now} {row} same fits = subst (λ (p : Page). Fits p row) same fits
 
 -- a page of which other bytes wait, twice
 pub still_same : (first : Page) {before after : Page} → before ≡ with_waiting before.waiting first → after ≡ with_waiting after.waiting before → after ≡ with_waiting after.waiting first

@@ -1,5 +1,5 @@
 -- The page that a run writes: its rows, its text, and the note at its end.
-use Rattle.std.specs.Prelude.{◌≡◌, ℕ, Bool, false, IsTrue, List, [], ◌∷◌, ◌++◌, Option, Some, None, codes, length, take, unwrap_or, if◌then◌else◌}
+use Rattle.std.specs.Prelude.{◌≡◌, ◌≤◌, ℕ, Bool, false, IsTrue, List, [], ◌∷◌, ◌++◌, Option, Some, None, codes, length, take, unwrap_or, if◌then◌else◌}
 use Rattle.std.specs.Option.{MatchOption}
 use Rattle.span_core.specs.Lists.{Has}
 use Rattle.span_core.specs.declared.kept.Kept.{Kept}
@@ -44,6 +44,11 @@ IsPageOf q d names after None rows more = (limit : ℕ) × IsPage q d names afte
 abbrev pub first_rows : Option ℕ → List SpanRow → List SpanRow
 first_rows None rows = rows
 first_rows (Some limit) rows = take limit rows
+
+-- a limit that is no less
+abbrev pub Allows : Option ℕ → ℕ → Type 0
+Allows None n = Unit {0}
+Allows (Some limit) n = n ≤ limit
 
 -- ---- the text of the page
 

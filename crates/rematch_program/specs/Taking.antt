@@ -1,8 +1,9 @@
 -- Taking the rows of a page or of a summary, of the answers that are left: which these are, what is written of them, and what it costs.
-use Rattle.std.specs.Prelude.{ℕ, ◌+◌, ◌≤◌, Bool, List, [], ◌∷◌, Option, length, nat_lt, take}
+use Rattle.std.specs.Prelude.{◌≡◌, ℕ, ◌+◌, ◌≤◌, Bool, List, [], ◌∷◌, ◌++◌, Option, length, nat_lt, take}
 use Rattle.command_line.specs.RequestView.{RequestView}
 use Rattle.spanner_model.specs.Captures.{VarName}
 use Rattle.spanner_model.specs.Answers.{SpanRow}
+use Rattle.enumerator.specs.Ends.{last_of}
 use Rattle.spanner_engine.specs.Left.{RowsLeft, checks_over, passing_over}
 use Rattle.spanner_model.specs.Passing.{Check, passing}
 use Rattle.rematch_program.specs.Work.{Clock, TakesAtMost}
@@ -48,3 +49,13 @@ module _ (judges : ℕ → List ℕ → Bool) (r : RowsLeft) where
 
     abbrev pub page_note : List ℕ
     page_note = last_note r.source.names (length r.source.document) a.after (page_rows a.limit) (nat_lt (length (page_rows a.limit)) (length coming))
+
+-- ---- some of the rows of a page
+
+-- Of the rows that were coming up to a limit these were taken, and the last of them was gone to. The others are left, up to what is left
+-- of the limit.
+pub record HaveTaken (judges : ℕ → List ℕ → Bool) (old new : RowsLeft) (limit left : Option ℕ) : Type 0 where
+  pub taken : List SpanRow
+  pub next : coming judges old ≡ taken ++ coming judges new
+  pub within : page_rows judges old limit ≡ taken ++ page_rows judges new left
+  pub row : new.row ≡ last_of old.row taken

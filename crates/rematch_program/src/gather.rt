@@ -1,18 +1,21 @@
-//! Lines are gathered, and put as whole lines: as many as fit a piece in one put, a longer one alone.
+//! Lines are gathered, and put as whole lines: as many lines and runs of lines as fit a piece in one put, a longer line alone.
 //!
 //! What was put is always a front of the whole text that ends with a line, whatever fails after it.
-ghost use Rattle.std.specs.Prelude.{◌≡◌, ◌+◌, ◌-◌, ◌≤◌, ◌++◌, [], OnOk, OnErr, IfOk, IsTrue, length, map, take, Some, slice_range};
+ghost use Rattle.std.specs.Prelude.{◌≡◌, ℕ, ◌+◌, ◌-◌, ◌≤◌, ◌++◌, [], OnOk, OnErr, IfOk, IsTrue, length, take, Some, slice_get, slice_range, false};
 ghost use Rattle.std.specs.List.{list_all};
+ghost use Rattle.span_core.specs.Lists.{Has};
+ghost use Rattle.enumerator.specs.Ends.{AreFrom};
 ghost use Rattle.cell_text.specs.Cells.{ends_by};
 ghost use Rattle.row_writer.specs.Kept.{kept_text, line_room};
 ghost use Rattle.rm_outside.specs.Change.{change, Adds, AddsPart, Failed};
+ghost use Rattle.rematch_program.specs.Kept.{ends_text};
 ghost use Rattle.rematch_program.specs.Work.{Passes};
 ghost use Rattle.rematch_program.specs.declared.gather.TheConstants.{LINE_ROOM, PIECE};
 
 use cell_text::put_bytes;
 use rm_outside::{Sink, SinkFailed};
 use row_writer::KeptLine;
-use span_core::{OutOfMemory, Span};
+use span_core::{MOST_VARIABLES, OutOfMemory, Span};
 use std::alloc::Global;
 use std::marker::Model;
 
@@ -133,6 +136,100 @@ impl Gather {
             Err(fault) => Err(fault),
         }
     }
+
+    /// Adds the lines of a row with each of these ends of one span. They are written where they wait, and what waits is put first
+    /// where all are too long.
+    pub fn add_ends<O: Sink>(
+        &mut self,
+        line: &mut KeptLine,
+        of: &Ends<'_>,
+        out: &mut O,
+    ) -> Result<(), SinkFailed>
+        requires most { length of.now.ends.now ≤ 16 }
+        requires lengths { length of.now.spans.now ≡ length line.old.heads }
+        requires room { line_room false line.old.heads of.now.spans.now ≤ LINE_ROOM }
+        requires span { slice_get of.now.spans.now of.now.place ≡ Some (Some of.now.span) }
+        requires from { AreFrom of.now.span.start of.now.ends.now }
+        requires inside { IsTrue (list_all (ends_by (length of.now.document.now)) of.now.spans.now) }
+        requires each { (at : ℕ) → Has of.now.ends.now at → at ≤ length of.now.document.now }
+        ensures line { line.new ≡ line.old }
+        ensures ok { OnOk result (Passes self.old
+            (ends_text line.old of.now.spans.now of.now.place of.now.document.now of.now.ends.now) self.new
+            (change (O.told out.old) (O.told out.new))) }
+        ensures part { OnErr result (AddsPart (change (O.told out.old) (O.told out.new))
+            (self.old ++ ends_text line.old of.now.spans.now of.now.place of.now.document.now of.now.ends.now)) }
+        ensures failed { OnErr result (Failed (change (O.told out.old) (O.told out.new))) }
+        ensures later { (O.told out.old).faults ≤ (O.told out.new).faults }
+    {
+        let (at, buffer) = (self.end, self.bytes.as_mut_slice());
+        let Some(end) = line.put_ends(
+            of.spans,
+            of.place,
+            of.span,
+            of.ends,
+            of.document,
+            buffer,
+            at,
+        ) else {
+            return self.add_each(line, of, out);
+        };
+        if end <= PIECE {
+            self.end = end;
+            return Ok(());
+        }
+        match put_before(&mut self.bytes, self.end, end, out) {
+            Ok(()) => {
+                self.end = end - self.end;
+                Ok(())
+            }
+            Err(fault) => Err(fault),
+        }
+    }
+
+    /// Adds these lines row by row.
+    #[inline(never)]
+    fn add_each<O: Sink>(
+        &mut self,
+        line: &mut KeptLine,
+        of: &Ends<'_>,
+        out: &mut O,
+    ) -> Result<(), SinkFailed>
+        requires lengths { length of.now.spans.now ≡ length line.old.heads }
+        requires room { line_room false line.old.heads of.now.spans.now ≤ LINE_ROOM }
+        requires span { slice_get of.now.spans.now of.now.place ≡ Some (Some of.now.span) }
+        requires from { AreFrom of.now.span.start of.now.ends.now }
+        requires inside { IsTrue (list_all (ends_by (length of.now.document.now)) of.now.spans.now) }
+        requires each { (at : ℕ) → Has of.now.ends.now at → at ≤ length of.now.document.now }
+        ensures line { line.new ≡ line.old }
+        ensures ok { OnOk result (Passes self.old
+            (ends_text line.old of.now.spans.now of.now.place of.now.document.now of.now.ends.now) self.new
+            (change (O.told out.old) (O.told out.new))) }
+        ensures part { OnErr result (AddsPart (change (O.told out.old) (O.told out.new))
+            (self.old ++ ends_text line.old of.now.spans.now of.now.place of.now.document.now of.now.ends.now)) }
+        ensures failed { OnErr result (Failed (change (O.told out.old) (O.told out.new))) }
+        ensures later { (O.told out.old).faults ≤ (O.told out.new).faults }
+    {
+        let mut row = [None; MOST_VARIABLES];
+        row[..of.spans.len()].copy_from_slice(of.spans);
+        for end in of.ends {
+            row[of.place] = Some(Span::new(of.span.start, *end));
+            let spans = &row[..of.spans.len()];
+            if let Err(fault) = self.add_row(line, spans, of.document, false, out) {
+                return Err(fault);
+            }
+        }
+        Ok(())
+    }
+}
+
+/// The lines of a row without texts with each of these ends of its span at a place, and the document.
+#[derive(Clone, Copy)]
+pub struct Ends<'a> {
+    pub spans: &'a [Option<Span>],
+    pub place: usize,
+    pub span: Span,
+    pub ends: &'a [u32],
+    pub document: &'a [u8],
 }
 
 /// Puts the bytes before a place, and moves those from there up to `end` to the front.

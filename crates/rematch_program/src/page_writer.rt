@@ -1,23 +1,26 @@
 //! The lines of a page, row by row.
 //!
 //! A line is written where it waits for a put; one with long texts is written apart, in room that is used again.
-ghost use Rattle.std.specs.Prelude.{◌≡◌, ◌≤◌, ◌++◌, [], IfOk, IsTrue, OnOk, OnErr, IsErrOf, length};
+ghost use Rattle.std.specs.Prelude.{◌≡◌, ℕ, ◌<◌, ◌≤◌, ◌++◌, [], IfOk, IsTrue, OnOk, OnErr, IsErrOf, length, false};
+ghost use Rattle.std.specs.Bool.{OnTrue};
 ghost use Rattle.std.specs.List.{list_all};
+ghost use Rattle.span_core.specs.Lists.{Has};
+ghost use Rattle.enumerator.specs.Ends.{AreEnds, rows_to};
 ghost use Rattle.cell_text.specs.Cells.{ends_by};
 ghost use Rattle.command_line.specs.RequestView.{request_view};
 ghost use Rattle.rm_outside.specs.Change.{change, Adds, AddsPart, Failed};
 ghost use Rattle.row_writer.specs.Kept.{kept_text};
 ghost use Rattle.span_core.specs.declared.TheConstants.{MOST_VARIABLES};
 ghost use Rattle.rematch_program.specs.Work.{Passes};
-ghost use Rattle.rematch_program.specs.Written.{Fits, line_of, page_begun, with_waiting};
+ghost use Rattle.rematch_program.specs.Written.{Fits, line_of, lines_of, page_begun, with_waiting};
 ghost use Rattle.rematch_program.specs.declared.page_writer.PageFault.TheVariants as fault;
 
-use crate::gather::{Gather, LINE_ROOM};
+use crate::gather::{Ends, Gather, LINE_ROOM};
 use crate::lines::{kept_line, put_head};
 use command_line::{Form, Request};
 use rm_outside::{Sink, SinkFailed};
 use row_writer::KeptLine;
-use span_core::{OutOfMemory, Span, VarSet};
+use span_core::{MOST_VARIABLES, OutOfMemory, Span, VarSet};
 use std::alloc::Global;
 use std::marker::Model;
 
@@ -139,6 +142,55 @@ impl<'p> PageWriter<'p> {
             texts: self.texts,
         };
         put_long(&row, &mut self.kept, &mut self.apart, &mut self.gather, out)
+    }
+
+    /// Whether lines of rows that differ in one end can be put at once: texts are not shown, and all spans have room.
+    pub fn takes_ends(&self) -> bool
+        ensures { OnTrue result ((self.now.texts ≡ false) × (length self.now.names < MOST_VARIABLES)) }
+    {
+        !self.texts && self.vars.len() < MOST_VARIABLES
+    }
+
+    /// Puts the lines of a row with each of these ends of its span at a place, or lets them wait.
+    pub fn put_ends<O: Sink>(
+        &mut self,
+        spans: &[Option<Span>],
+        place: usize,
+        ends: &[u32],
+        out: &mut O,
+    ) -> Result<(), PageFault>
+        requires some { 0 < length ends.now }
+        requires most { length ends.now ≤ 16 }
+        requires bare { self.old.texts ≡ false }
+        requires few { length self.old.names < MOST_VARIABLES }
+        requires fits { Fits self.old spans.now }
+        requires ends { AreEnds spans.now place ends.now }
+        requires each { (at : ℕ) → Has ends.now at → at ≤ length self.old.document }
+        ensures same { self.new ≡ with_waiting self.new.waiting self.old }
+        ensures ok { OnOk result (Passes self.old.waiting (lines_of self.old (rows_to spans.now place ends.now)) self.new.waiting
+            (change (O.told out.old) (O.told out.new))) }
+        ensures part { OnErr result (AddsPart (change (O.told out.old) (O.told out.new))
+            (self.old.waiting ++ lines_of self.old (rows_to spans.now place ends.now))) }
+        ensures failed { IsErrOf result PageFault.Failed → Failed (change (O.told out.old) (O.told out.new)) }
+        ensures later { (O.told out.old).faults ≤ (O.told out.new).faults }
+    {
+        if place >= spans.len() {
+            unreachable!();
+        }
+        let Some(span) = spans[place] else {
+            unreachable!();
+        };
+        let of = Ends {
+            spans,
+            place,
+            span,
+            ends,
+            document: self.document,
+        };
+        if let Err(SinkFailed) = self.gather.add_ends(&mut self.kept, &of, out) {
+            return Err(PageFault::Failed);
+        }
+        Ok(())
     }
 
     /// Puts what waits.

@@ -1,8 +1,8 @@
 //! How many rows may still be written.
-ghost use Rattle.std.specs.Prelude.{◌≡◌, List, [], ◌∷◌};
+ghost use Rattle.std.specs.Prelude.{◌≡◌, ◌≤◌, List, [], ◌∷◌, ◌++◌, length};
 ghost use Rattle.std.specs.Bool.{OnTrue, OnFalse};
 ghost use Rattle.spanner_model.specs.Answers.{SpanRow};
-ghost use Rattle.rematch_program.specs.Pages.{first_rows};
+ghost use Rattle.rematch_program.specs.Pages.{Allows, first_rows};
 
 use std::marker::Model;
 
@@ -43,5 +43,29 @@ impl Remaining {
             }
             None => true,
         }
+    }
+
+    /// How many of them may be taken at once, up to so many.
+    #[inline(always)]
+    pub fn at_most(&self, most: usize) -> usize
+        ensures few { result ≤ most }
+        ensures allows { Allows self.now result }
+    {
+        match self.rows {
+            Some(rows) if rows < most as u64 => rows as usize,
+            _ => most,
+        }
+    }
+
+    /// Takes so many of them.
+    #[inline(always)]
+    pub fn take(&mut self, count: usize)
+        requires { Allows self.old count }
+        ensures { (rows more : List SpanRow) → length rows ≡ count → first_rows self.old (rows ++ more) ≡ rows ++ first_rows self.new more }
+    {
+        let Some(rows) = self.rows else {
+            return;
+        };
+        self.rows = Some(rows - count as u64);
     }
 }

@@ -7,8 +7,9 @@ use Rattle.rematch_program.specs.Pages.{FitsIf, first_rows, row_if}
 use Rattle.rematch_program.specs.Taking.{coming, page_rows}
 use Rattle.rematch_program.specs.Written.{lines_of}
 use Rattle.rematch_program.proofs.Gathers.{rows_passed}
-use Rattle.rematch_program.proofs.PageSteps.{ends_after, ends_none, first_of_none, fits_page, further, goes_out, last_try, next_row, took_found, took_none, tried_all, tried_some}
-use Rattle.rematch_program.proofs.Writing.{fits_now, line_cut, line_passed, still_same}
+use Rattle.rematch_program.proofs.PageSteps.{ends_after, ends_long, ends_none, ends_on, first_of_none, fits_page, further, goes_out, last_try, next_row, took_found, took_none, took_runs, tried_all, tried_some}
+use Rattle.rematch_program.proofs.Runs.{end_taken, fewer_over, page_over, runs_cut, runs_passed}
+use Rattle.rematch_program.proofs.Writing.{fits_now, fits_then, line_cut, line_passed, over_now, still_same}
 use Rattle.rematch_program.proofs.page.put_rows.Goals as goal
 
 pub loop-remaining-init : goal.loop-remaining-init
@@ -76,25 +77,74 @@ returns-in-Err-clause-steps g c =
     (omega (arith, ap length row.next, ap length row.front, inv.more))
     (took_found inv.source _ _ _ inv.tried left _ inv.steps c.advance.result (search rules) c.advance.ensures.steps)
 
-pub loop-remaining-smaller : goal.loop-remaining-smaller
-loop-remaining-smaller g c = further g.J.Judge.judges (left_in c.loop-remaining.rows).source _ c.advance.ensures.left c.if-not-advance.ensures.next
+-- ---- and a run of rows behind it
 
-pub loop-remaining-preserved : goal.loop-remaining-preserved
-loop-remaining-preserved g c =
+pub put_runs-requires-clause-over : goal.put_runs-requires-clause-over
+put_runs-requires-clause-over g c =
+    let page = c.args.page.now in
+    let same = still_same page c.loop-remaining.invariant.same c.put.ensures.same in
+    over_now page same (c.advance.ensures.source ∙ c.loop-remaining.invariant.source) c.requires.over
+
+pub put_runs-requires-clause-row : goal.put_runs-requires-clause-row
+put_runs-requires-clause-row g c =
+    let page = c.args.page.now in
+    let next = (left_in c.advance.new.self).row in
+    fits_now page (still_same page c.loop-remaining.invariant.same c.put.ensures.same) {row = next} {spans = next} refl c.requires.over
+    (fits_page c.loop-remaining.invariant.source c.if-not-advance.ensures.fits)
+
+pub returns-in-Err-put_runs-clause-part : goal.returns-in-Err-put_runs-clause-part
+returns-in-Err-put_runs-clause-part g c =
     let page = c.args.page.now in
     let inv = c.loop-remaining.invariant in
     let row = next_row g.J.Judge.judges _ inv.source inv.tried c.advance.ensures.left c.if-not-advance.ensures.next c.loop-remaining-test.ensures.one in
-    let next = (left_in c.advance.new.self).row in
+    let line = line_passed page inv.same c.spans.ensures (g.O.Sink.told c.put.new.out) row.front inv.so_far c.in_default.ensures.ok in
+    runs_cut g.J.Judge.judges page c.put.new.self (still_same page inv.same c.put.ensures.same) (left_in c.args.rows.now).source (left_in c.advance.new.self)
+    (c.advance.ensures.source ∙ inv.source) (g.O.Sink.told c.put_runs.new.out) _ line c.in-Err-put_runs.ensures.part
+
+pub returns-in-Err-put_runs-clause-steps : goal.returns-in-Err-put_runs-clause-steps
+returns-in-Err-put_runs-clause-steps g c =
+    let judges = g.J.Judge.judges in
+    let inv = c.loop-remaining.invariant in
+    let left = c.advance.ensures.left in
+    let row = next_row judges _ inv.source inv.tried left c.if-not-advance.ensures.next c.loop-remaining-test.ensures.one in
+    let over = c.advance.ensures.source ∙ inv.source in
+    let fewer = fewer_over judges c.put_runs.ensures.taken over (c.put_runs.ensures.source ∙ over) in
+    tried_some judges (left_in c.args.rows.now).source (page_rows judges (left_in c.args.rows.now) c.args.limit) _ _ (ends_on _ row.tried c.put_runs.ensures.left) _ _
+    (omega (arith, ap length row.next, ap length row.front, fewer, inv.more))
+    (took_runs inv.source _ _ _ inv.tried left _ inv.steps c.advance.result _ _ (search rules) c.advance.ensures.steps
+    (further judges (left_in c.loop-remaining.rows).source _ left c.if-not-advance.ensures.next) c.put_runs.ensures.left c.put_runs.ensures.steps)
+
+pub loop-remaining-smaller : goal.loop-remaining-smaller
+loop-remaining-smaller g c =
+    let fewer = further g.J.Judge.judges (left_in c.loop-remaining.rows).source _ c.advance.ensures.left c.if-not-advance.ensures.next in
+    let no_more = ends_long _ _ c.put_runs.ensures.left in
+    omega (arith, fewer, no_more)
+
+pub loop-remaining-preserved : goal.loop-remaining-preserved
+loop-remaining-preserved g c =
+    let judges = g.J.Judge.judges in
+    let page = c.args.page.now in
+    let inv = c.loop-remaining.invariant in
+    let left = c.advance.ensures.left in
+    let row = next_row judges _ inv.source inv.tried left c.if-not-advance.ensures.next c.loop-remaining-test.ensures.one in
+    let over = c.advance.ensures.source ∙ inv.source in
+    let same = still_same page inv.same c.put.ensures.same in
+    let runs = c.put_runs.ensures in
+    let taken = runs.taken in
+    let fewer = fewer_over judges taken over (runs.source ∙ over) in
+    let line = line_passed page inv.same c.spans.ensures (g.O.Sink.told c.put.new.out) row.front inv.so_far c.in_default.ensures.ok in
     record {
-      source = c.advance.ensures.source ∙ inv.source;
-      same = still_same page inv.same c.put.ensures.same;
-      so_far = line_passed page inv.same c.spans.ensures _ row.front inv.so_far c.in_default.ensures.ok;
-      later = omega (arith, inv.later, c.put.ensures.later);
-      last = fits_now page {before = page} refl {row = next} {spans = next} refl c.requires.over (fits_page inv.source c.if-not-advance.ensures.fits);
-      end = sym (ap (λ (rows : List SpanRow). page_end rows (row_if c.loop-remaining.some (left_in c.loop-remaining.rows).row)) row.front) ∙ inv.end;
-      more = omega (arith, inv.more, ap length row.next, ap length row.front);
-      tried = row.tried;
-      steps = took_found inv.source _ _ _ inv.tried c.advance.ensures.left _ inv.steps c.advance.result (search rules) c.advance.ensures.steps;
+      source = runs.source ∙ over;
+      same = still_same page same runs.same;
+      so_far = runs_passed judges page c.put.new.self same (left_in c.args.rows.now).source (left_in c.advance.new.self) over (g.O.Sink.told c.put_runs.new.out) _ line
+          (left_in c.put_runs.new.rows) _ (runs.source ∙ over) c.in_default-put_runs.ensures.ok;
+      later = omega (arith, inv.later, c.put.ensures.later, runs.later);
+      last = fits_then page same runs.row;
+      end = end_taken _ taken.taken _ row.front (page_over judges taken over (runs.source ∙ over)) taken.row ∙ inv.end;
+      more = omega (arith, inv.more, ap length row.next, ap length row.front, fewer);
+      tried = ends_on _ row.tried runs.left;
+      steps = took_runs inv.source _ _ _ inv.tried left _ inv.steps c.advance.result _ _ (search rules) c.advance.ensures.steps
+          (further judges (left_in c.loop-remaining.rows).source _ left c.if-not-advance.ensures.next) runs.left runs.steps;
     }
 
 -- ---- behind the last row
