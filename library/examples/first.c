@@ -7,7 +7,7 @@
 #include <string.h>
 
 int main(void) {
-    const char *text = "/!key{\\w+}=!value{\\d+}/", *document = "width=640 height=480";
+    const char *text = "/^(.* )?!key{\\w+}=!value{\\d+}( .*)?$/", *document = "width=640 height=480";
     rematch_query query = REMATCH_NONE;
     rematch_rows rows = REMATCH_NONE;
     rematch_text note;
