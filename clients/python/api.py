@@ -15,7 +15,7 @@ PAGE = os.path.join(HERE, '..', '..', 'docs', 'API.md')
 sys.path.insert(0, HERE)
 
 GROUPS = [
-    ('Queries', ['Query', 'compile', 'search', 'findall', 'finditer', 'sub']),
+    ('Queries', ['Query', 'compile', 'search', 'match', 'fullmatch', 'findall', 'finditer', 'split', 'sub', 'expand']),
     ('Rows', ['Match', 'Matches', 'Page', 'NoVariable']),
     ('Documents', ['Document']),
     ('Faults', ['RematchError', 'QueryError', 'SizeError', 'DocumentError', 'CursorError', 'OutOfMemory', 'ProgramError',

@@ -9,12 +9,12 @@ r"""Every match of a query in a document, over the program rematch.
     (1, 2) b
     (1, 2) bb
 
-The names here are all that is public: `Query` with `Match`, `Matches`, `Page` and `Document`; `search`, `findall`, `finditer`
-and `sub`, as ``re`` has them; the faults, each also of a built-in kind; `advise`, on what is accepted and seldom meant;
-`Server`, for many queries of small documents and for documents that grow; `reach` and `NoReach`, for documents in pieces; `on_dask`, for many machines.
-clients/README.md has examples.
+The names here are all that is public: `Query` with `Match`, `Matches`, `Page` and `Document`; `search`, `match`, `fullmatch`,
+`findall`, `finditer`, `split` and `sub`, as ``re`` has them; `expand`, which writes out the conveniences of rematch-to; the faults, each
+also of a built-in kind; `advise`, on what is accepted and seldom meant; `Server`, for many queries of small documents and for documents
+that grow; `reach` and `NoReach`, for documents in pieces; `on_dask`, for many machines. clients/README.md has examples.
 """
-from typing import TYPE_CHECKING, Any, List, Union
+from typing import TYPE_CHECKING, Any, List, Optional, Union
 
 from .documents import Document
 from .faults import (CursorError, DocumentError, OutOfMemory, ProgramError, ProgramNotFound, QueryError, RematchError,
@@ -27,16 +27,16 @@ from .version import VERSION
 if TYPE_CHECKING:
     from ._dask import on_dask
     from .advice import Advice, advise
-    from .calls import findall, finditer, search, sub
+    from .calls import expand, findall, finditer, fullmatch, search, split, sub
     from .pieces import NoReach, reach
     from .session import Server, Session, SessionError
 
 __all__ = ['Query', 'Match', 'Matches', 'Page', 'Document', 'RematchError', 'QueryError', 'SizeError', 'DocumentError',
            'CursorError', 'OutOfMemory', 'ProgramError', 'ProgramNotFound', 'NoVariable', 'find_program', 'compile', 'search',
-           'findall', 'finditer', 'sub', 'advise', 'Advice', 'Server', 'Session', 'SessionError', 'reach', 'NoReach', 'on_dask']
+           'match', 'fullmatch', 'findall', 'finditer', 'split', 'sub', 'expand', 'advise', 'Advice', 'Server', 'Session', 'SessionError', 'reach', 'NoReach', 'on_dask']
 __version__ = VERSION
 
-_ELSEWHERE = {'findall': 'calls', 'finditer': 'calls', 'search': 'calls', 'sub': 'calls',
+_ELSEWHERE = {**dict.fromkeys(('expand', 'findall', 'finditer', 'fullmatch', 'search', 'split', 'sub'), 'calls'),
               'advise': 'advice', 'Advice': 'advice', 'Server': 'session', 'Session': 'session', 'SessionError': 'session',
               'reach': 'pieces', 'NoReach': 'pieces', 'on_dask': '_dask'}
 
@@ -48,6 +48,16 @@ def compile(text: Union[str, bytes], **words: Any) -> Query:
     2
     """
     return Query(text, **words)
+
+
+def match(query: Union[str, bytes, Query], document: Any) -> Optional[Match[Any]]:  # in place of the module of this name
+    """The first row that begins where the document does, as `Query.match` has it.
+
+    >>> match('/!x{a+}/', 'aab')
+    <rematch.Match x=0-1>
+    """
+    from .calls import query_of
+    return query_of(query).match(document)
 
 
 def __getattr__(name: str) -> Any:

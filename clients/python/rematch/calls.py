@@ -3,7 +3,7 @@ from __future__ import annotations
 
 import os
 from functools import lru_cache
-from typing import TYPE_CHECKING, Any, Iterator, Optional, Union
+from typing import TYPE_CHECKING, Any, Iterator, List, Optional, Union
 
 from .match import Match, Matches
 from .query import Query
@@ -12,7 +12,7 @@ if TYPE_CHECKING:
     from .documents import Source
     from .replace import Replacement
 
-__all__ = ['findall', 'finditer', 'search', 'sub']
+__all__ = ['expand', 'findall', 'finditer', 'fullmatch', 'search', 'split', 'sub']
 
 _KEPT = 64  # queries that are kept ready
 
@@ -35,6 +35,35 @@ def search(query: Union[str, bytes, Query], document: 'Source', *, after: str = 
     True
     """
     return query_of(query).search(document, after=after)
+
+
+def fullmatch(query: Union[str, bytes, Query], document: 'Source') -> Optional[Match[Any]]:
+    """The first row that is as long as the document, as `Query.fullmatch` has it.
+
+    >>> fullmatch('/!x{a+}/', 'aa')
+    <rematch.Match x=0-2>
+    """
+    return query_of(query).fullmatch(document)
+
+
+def split(query: Union[str, bytes, Query], document: 'Source', *, name: Optional[str] = None, count: int = 0) -> List[Any]:
+    """What is between the spans of a variable, as `Query.split` has it.
+
+    >>> split('/!x{, *}/', 'a, b,c', count=1)
+    ['a', 'b,c']
+    """
+    return query_of(query).split(document, name=name, count=count)
+
+
+def expand(text: Union[str, bytes]) -> Union[str, bytes]:
+    r"""The query that the program reads for a text with the conveniences of ``rematch-to``; `QueryError` for one that cannot be read.
+
+    >>> expand('part ip = /[0-9.]+/; /FROM !ip{%{ip}}/i')
+    '/[Ff][Rr][Oo][Mm] !ip{([0-9.]+)}/'
+    """
+    from .to.expand import expanded
+    made = expanded(text).text
+    return made.decode('utf-8', 'surrogateescape') if isinstance(text, str) else made
 
 
 def findall(query: Union[str, bytes, Query], document: 'Source', *, after: str = 'start',

@@ -81,7 +81,7 @@ class Document:
             self.name = os.fsdecode(self._path)
             _warn_of_packed(self._path)
         else:
-            self._take_file(source)
+            self._take_buffer(source)
         if encoding is not None and self._text is None:
             self._decode(encoding)
 
@@ -110,6 +110,16 @@ class Document:
         self._data = text.encode('utf-8', 'surrogatepass')
         if len(self._data) != len(text):
             self._places = _all_places(self._data) if len(self._data) <= _SMALL else _Counted(self, self._data)
+
+    def _take_buffer(self, source: Any) -> None:
+        """Takes the bytes of what has a buffer, as a map of a file, which can be read as a file too."""
+        try:
+            view = memoryview(source)
+        except TypeError:
+            self._take_file(source)
+            return
+        with view:
+            self._data = bytes(view)
 
     def _take_file(self, file: Any) -> None:
         if not hasattr(file, 'read'):

@@ -242,6 +242,41 @@ class Query(Variables):
         found = self.findall(document, after=after, limit=1)
         return found[0] if found else None
 
+    def match(self, document: Source) -> Optional[Match[Any]]:
+        """The first row whose first span begins where the document does, or None where there is none.
+
+        >>> query = Query('/!x{a+}/')
+        >>> query.match('aab'), query.match('baa')
+        (<rematch.Match x=0-1>, None)
+        """
+        found = self.search(document)  # rows that begin there come before all others
+        return found if found is not None and found.extent is not None and found.extent[0] == 0 else None
+
+    def fullmatch(self, document: Source) -> Optional[Match[Any]]:
+        """The first row whose spans reach from the start of the document to its end, or None where there is none.
+
+        >>> Query('/!x{a+}!y{b?}/').fullmatch('aab'), Query('/!x{a+}/').fullmatch('aab')
+        (<rematch.Match x=0-2 y=2-3>, None)
+        """
+        opened = open_document(document)
+        for found in self.finditer(opened):
+            if found.extent is None or found.extent[0] > 0:
+                return None
+            if found.extent[1] == len(opened):
+                return found
+        return None
+
+    def split(self, document: Source, *, name: Optional[str] = None, count: int = 0) -> List[Any]:
+        """What is between the spans of a variable: of the one that the query has, of several of ``name``.
+
+        Spans are taken as `sub` takes them, with ``count`` at most so many; an empty span splits nothing.
+
+        >>> Query('/!x{, *}/').split('a, b,c')
+        ['a', 'b', 'c']
+        """
+        from .replace import pieces_between
+        return pieces_between(self, open_document(document), name, count)
+
     def sub(self, replacement: 'Replacement', document: Source, *, name: Optional[str] = None,
             count: int = 0) -> Union[str, bytes]:
         r"""The document with the spans of a variable replaced: of the one that the query has, of several of ``name``.

@@ -10,7 +10,7 @@ from .match import Match
 if TYPE_CHECKING:
     from .query import Query
 
-__all__ = ['replaced']
+__all__ = ['pieces_between', 'replaced']
 
 Replacement = Union[str, bytes, Callable[[Match[Any]], Union[str, bytes]]]
 
@@ -54,12 +54,14 @@ def _variable(query: 'Query', name: Optional[str]) -> str:
     return query.variables[0]
 
 
-def _taken(query: 'Query', document: Document, name: str, count: int) -> List[Match[Any]]:
+def _taken(query: 'Query', document: Document, name: str, count: int, *, has_empty: bool = True) -> List[Match[Any]]:
     """The rows whose spans are replaced: from the left, the longest of a place, and none that overlaps one before."""
+    if count < 0:
+        raise ValueError(f'a count is 0 or more, not {count}')
     spans = {}
     for match in query.finditer(document):
         span = match.span(name)
-        if span is not None:
+        if span is not None and (has_empty or span[0] < span[1]):
             spans.setdefault((span[0], -span[1]), match)
     taken: List[Match[Any]] = []
     free = 0
@@ -70,10 +72,20 @@ def _taken(query: 'Query', document: Document, name: str, count: int) -> List[Ma
     return taken
 
 
+def pieces_between(query: 'Query', document: Document, name: Optional[str], count: int) -> List[Union[str, bytes]]:
+    """What is between the spans of a variable; `Query.split` says which."""
+    chosen = _variable(query, name)
+    pieces: List[Union[str, bytes]] = []
+    at = 0
+    for match in _taken(query, document, chosen, count, has_empty=False):
+        start, end = match.span(chosen) or (at, at)
+        pieces.append(document.text(at, start))
+        at = end
+    return [*pieces, document.text(at, len(document))]
+
+
 def replaced(query: 'Query', replacement: Replacement, document: Document, name: Optional[str], count: int) -> Union[str, bytes]:
     """The text of a document in which the spans of a variable are replaced; `Query.sub` says which."""
-    if count < 0:
-        raise ValueError(f'a count is 0 or more, not {count}')
     chosen = _variable(query, name)
     is_text = isinstance(document.text(0, 0), str)
     kind = str if is_text else bytes

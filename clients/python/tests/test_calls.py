@@ -1,4 +1,6 @@
-"""The calls that `re` has: search, findall, finditer, sub, and what a row answers to."""
+"""The calls that `re` has: search, match, findall, finditer, split, sub, and what a row answers to."""
+import array
+import mmap
 import os
 import pathlib
 import random
@@ -7,9 +9,10 @@ import unittest
 
 import rematch
 from support import Folder
+from drawing import Maker
 
 
-class Calls(unittest.TestCase):
+class Calls(Folder):
     def test_those_of_re(self):
         text = r'/from !ip{[\d.]+} port !port{\d+}\n/'
         document = 'from 192.0.2.7 port 22\nfrom 192.0.2.8 port 23\n'
@@ -23,9 +26,59 @@ class Calls(unittest.TestCase):
         self.assertIsNone(rematch.search('/!x{q}/', document))
         self.assertEqual(rematch.findall('/!x{q}/', b''), [])
 
+    def test_match_and_fullmatch(self):
+        """By the list of all rows, of drawn queries."""
+        found = 0
+        for number in range(60):
+            maker = Maker('match/%d' % number)
+            query = rematch.Query(maker.expr(set(maker.pick.sample('xyz', maker.pick.randrange(3))), 1))
+            document = maker.document()
+            try:
+                rows = query.findall(document)
+            except rematch.RematchError:
+                continue
+            first = [row for row in rows if row.extent and row.extent[0] == 0]
+            whole = [row for row in first if row.extent[1] == len(document)]
+            for got, wanted in ((query.match(document), first), (query.fullmatch(document), whole)):
+                self.assertEqual(got and got.row, wanted[0].row if wanted else None, (query, document))
+                found += got is not None
+        self.assertGreater(found, 20)
+        self.assertEqual(rematch.match('/!x{é}!y{.}/u', 'éa').span('y'), (1, 2))
+        self.assertEqual(rematch.fullmatch('/!x{é+}/u', 'éé').span('x'), (0, 2))
+        self.assertIsNone(rematch.fullmatch('/a/', 'a'))  # a row without spans is nowhere
+
+    def test_split(self):
+        self.assertEqual(rematch.split('/!x{, *}/', 'é, b,,c'), ['é', 'b', '', 'c'])
+        self.assertEqual(rematch.split('/!x{,}!y{b}/', b'a,b,c', name='y'), [b'a,', b',c'])
+        self.assertEqual(rematch.split('/!x{,*}/', ',a,,b'), ['', 'a', 'b'])  # the empty spans split nothing
+        self.assertEqual(rematch.split('/!x{,}/', ''), [''])
+        for number in range(40):
+            pick = random.Random(number)
+            document = ''.join(pick.choice('ab,é') for _ in range(pick.randrange(12)))
+            self.assertEqual('|'.join(rematch.split('/!x{,+}/', document)), rematch.sub('/!x{,+}/', '|', document))
+        for words, kind in (({'name': 'z'}, KeyError), ({'count': -1}, ValueError)):
+            with self.assertRaises(kind):
+                rematch.split('/!x{,}/', 'a', **words)
+        with self.assertRaises(ValueError):
+            rematch.split('/!x{,}!y{b}/', 'a')
+
+    def test_expand(self):
+        self.assertEqual(rematch.expand('part a = /x/; /!y{%{a}}/i'), '/!y{([Xx])}/')
+        self.assertEqual(rematch.expand(b'/!y{\xc3\xa9}/'), b'/!y{\xc3\xa9}/')
+        with self.assertRaises(rematch.QueryError):
+            rematch.expand('/%{a}/')
+
+    def test_what_has_a_buffer(self):
+        query = rematch.Query('/!x{a}/')
+        with open(self.file('d', b'aba'), 'r+b') as file, mmap.mmap(file.fileno(), 0) as found:
+            self.assertEqual([match.span('x') for match in query.finditer(found)], [(0, 1), (2, 3)])
+        self.assertEqual(query.count(array.array('B', b'aab')), 2)
+        with self.assertRaisesRegex(TypeError, 'a document is bytes, str, a path or an open file, not int'):
+            query.count(3)
+
     def test_queries_that_are_none(self):
         for ask in (rematch.search, rematch.findall, rematch.finditer):
-            with self.assertRaisesRegex(rematch.QueryError, 'a formula stands between slashes'):
+            with self.assertRaisesRegex(rematch.QueryError, 'write a formula between slashes'):
                 ask('a+', 'a')
         with self.assertRaises(rematch.QueryError):
             rematch.sub('a+', '', 'a')
