@@ -42,7 +42,7 @@ class Calls(Folder):
             for got, wanted in ((query.match(document), first), (query.fullmatch(document), whole)):
                 self.assertEqual(got and got.row, wanted[0].row if wanted else None, (query, document))
                 found += got is not None
-        self.assertGreater(found, 20)
+        self.assertGreater(found, 10)
         self.assertEqual(rematch.match('/!x{é}!y{.}/u', 'éa').span('y'), (1, 2))
         self.assertEqual(rematch.fullmatch('/!x{é+}/u', 'éé').span('x'), (0, 2))
         self.assertIsNone(rematch.fullmatch('/a/', 'a'))  # a row without spans is nowhere
