@@ -39,8 +39,8 @@ _rematch() {
 }
 
 _rematch_to_options=$(printf '%s ' \
-    -e -q -a --words -r --glob --files-from --no-head -o --quiet --filter --max-table --jobs -n --var --columns --texts --context --characters --sort --sample \
-    --sentence --color -C -v --line-numbers --lines --forward --iupac --sorted --strand-once --encoding --normal --frames --most-rows --expanded \
+    -e -q -a --words -r --glob --files-from --no-head -o --quiet --silent --filter --max-table --jobs -n --var --columns --texts --context --characters --sort --sample \
+    --sentence --color -C -v --line-numbers --rows --lines --forward --iupac --sorted --strand-once --encoding --normal --frames --most-rows --expanded \
     --from-start --state --idle --version --help)
 
 _rematch_to() {

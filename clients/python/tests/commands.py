@@ -15,10 +15,11 @@ class _Input(io.StringIO):
         self.buffer = io.BufferedReader(io.BytesIO(data))
 
 
-def asked(*words, stdin=b''):
-    """Status, output and notes of rematch-to in this process."""
+def asked(*words, stdin=b'', is_watched=True):
+    """Status, output and notes of rematch-to in this process, with the notes of a terminal."""
     out, told = io.StringIO(newline=''), io.StringIO()
-    with mock.patch('sys.stdout', out), mock.patch('sys.stderr', told), mock.patch('sys.stdin', _Input(stdin)):
+    with mock.patch('sys.stdout', out), mock.patch('sys.stderr', told), mock.patch('sys.stdin', _Input(stdin)), \
+            mock.patch('rematch.to.convert.is_watched', lambda: is_watched):
         try:
             status = convert.main(words)
         except SystemExit as ended:

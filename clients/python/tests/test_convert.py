@@ -40,6 +40,38 @@ class Convert(Folder):
 
 
 class Tables(Convert):
+    def test_an_empty_cell_alone(self):
+        """A reader of CSV passes over an empty line."""
+        path = self.file('d', 'aab')
+        for form in ('csv', 'tsv'):
+            out = asked(form, '--columns', 'x', '-e', '/!x{a*}/', path)[1]
+            self.assertEqual([row['x'] for row in csv.DictReader(io.StringIO(out))], ['', 'a', 'aa', '', 'a', '', ''])
+
+    def test_columns_of_one_name(self):
+        path = self.file('d', 'ab')
+        for query, name in (('/!line{a}/', 'line'), ('/!document{a}/', 'document'), ('/!x{a}!x_end{b}/', 'x_end')):
+            for form in ('csv', 'tsv', 'follow'):
+                status, out, told = asked(form, *(('--idle', '0') if form == 'follow' else ()), '-e', query, path)
+                self.assertEqual((status, out, 'two columns would be called %r' % name in told), (2, '', True), (query, told))
+        self.assertEqual(asked('csv', '--columns', 'x,line', '-e', '/!x{a}!document{b}/', path)[1], 'x,line\na,1\n')
+
+    def test_freq_counts_places(self):
+        path, other = self.file('d', 'x y y'), self.file('e', 'x y')
+        for jobs in ((), ('--jobs', '2')):
+            self.assertEqual(asked('freq', '--var', 'a', '-e', '/!a{x}.*!b{y}/', *jobs, path, other)[1], 'count,a\n2,x\n')
+            self.assertEqual(asked('freq', '--var', 'a', '--rows', '-e', '/!a{x}.*!b{y}/', *jobs, path, other)[1], 'count,a\n3,x\n')
+            self.assertEqual(asked('freq', '-e', '/!a{x}.*!b{y}/', *jobs, path, other)[1], 'count,a,b\n3,x,y\n')
+        self.assertEqual(asked('freq', '--var', 'a', '-e', '/(!a{x})? !b{y}/', path)[1], 'count,a\n2,\n1,x\n')
+
+    def test_advice_is_for_a_terminal(self):
+        """--quiet turns it off, and --silent the warnings too."""
+        path = self.file('d', b'\xff\xfea\0')
+        words = ('csv', '-e', r'/[^\w]!x{a}[^\w]/', path)
+        for more, watched, has_advice, has_warnings in (((), True, True, True), ((), False, False, True), (('--quiet',), True, False, True),
+                                                        (('--silent',), True, False, False), (('--silent', '--quiet'), False, False, False)):
+            told = asked(*words, *more, is_watched=watched)[2]
+            self.assertEqual(('advice at' in told, 'UTF-16' in told), (has_advice, has_warnings), (more, watched, told))
+
     def test_csv(self):
         path = self.file('a.log', LOG)
         self.assertEqual(self.to('csv', '-e', QUERY, path), TABLE.replace('NAME', 'a.log'))
@@ -117,7 +149,7 @@ class Concordances(Convert):
 
     def test_no_such_variable(self):
         self.assertEqual(asked('kwic', '-e', '/!x{a}/', '--var', 'y')[::2], (2, 'rematch-to: the query has no variable y\n'))
-        self.assertEqual(asked('kwic', '-e', '/a/', '--quiet')[::2], (2, 'rematch-to: the query has no variables\n'))
+        self.assertEqual(asked('kwic', '-e', '/a/', '--silent')[::2], (2, 'rematch-to: the query has no variables\n'))
 
 
 class Annotations(Convert):
@@ -174,7 +206,7 @@ class Commands(Folder):
                    broken: 'Compressed file ended before the end-of-stream marker was reached'}
         for form in ('csv', 'tsv', 'kwic', 'lines', 'freq', 'count', 'any', 'gff', 'html', 'ann', 'follow'):
             for path, reason in reasons.items():
-                words = (form, '--quiet', '-e', '/!x{A}/', path)
+                words = (form, '--silent', '-e', '/!x{A}/', path)
                 if form != 'follow' or path != broken:
                     self.assertEqual(asked(*words), (5, '', '%s: %s\n' % (path, reason)), words)
                 if form not in ('ann', 'follow'):

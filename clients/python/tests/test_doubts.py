@@ -19,7 +19,7 @@ class Doubts(Folder):
         path = self.file('d', data)
         status, _, told = asked(form, *words, path)
         self.assertEqual(status, 0, told)
-        self.assertEqual(asked(form, *words, path, '--quiet')[2], '', 'what --quiet leaves')
+        self.assertEqual(asked(form, *words, path, '--silent')[2], '', 'what --silent leaves')
         return without(self.folder, told)
 
     def test_fasta_under_the_forms_of_texts(self):
@@ -77,7 +77,7 @@ class Doubts(Folder):
         parted = self.file('n', 'cafe\u0301\n'.encode())
         for query in ('/!x{café}/', '/!x{cafe\u0301}/'):
             self.assertEqual(asked('count', '--normal', 'nfc', '-e', query, parted), (0, '1 %s\n' % parted, ''), query)
-        self.assertEqual(asked('count', '--quiet', '-e', '/!x{café}/', parted)[1], '0 %s\n' % parted)
+        self.assertEqual(asked('count', '--silent', '-e', '/!x{café}/', parted)[1], '0 %s\n' % parted)
 
     def test_packed_and_utf16_are_told_with_rows(self):
         for data, part in ((b'PK\x03\x04a', 'packed by zip.*unzip -p'), (b'\x28\xb5\x2f\xfda', 'packed by zstd.*zstdcat'),
@@ -104,12 +104,12 @@ class Sequences(Folder):
         for form in ('bed', 'gff', 'fasta'):
             self.assertIn('letters of proteins', asked(form, '-e', '/!x{MK}/', path)[2])
             self.assertEqual(asked(form, '-e', '/!x{MK}/', '--forward', path)[2], '')
-            self.assertEqual(asked(form, '-e', '/!x{MK}/', '--quiet', path)[2], '')
+            self.assertEqual(asked(form, '-e', '/!x{MK}/', '--silent', path)[2], '')
 
     def test_open_letters_of_a_query(self):
         path = self.file('d', FASTA)
         self.assertRegex(asked('bed', '-e', '/!x{GRNTC}/', path)[2], r'd: the query has N R as plain letters: --iupac')
-        for words in (('-e', '/!N{GATC}/'), ('-e', '/!x{GRN}/', '--iupac'), ('-e', '/!x{GRN}/', '--quiet')):
+        for words in (('-e', '/!N{GATC}/'), ('-e', '/!x{GRN}/', '--iupac'), ('-e', '/!x{GRN}/', '--silent')):
             self.assertEqual(asked('bed', *words, path)[2], '', words)
         self.assertNotIn('iupac', asked('bed', '-e', '/!x{N[^P]T}/', self.file('p', PROTEIN))[2])
 
@@ -117,7 +117,7 @@ class Sequences(Folder):
         path = self.file('d', b'>r\nTTGACCTTGGRCCTT\n')
         self.assertEqual(asked('fasta', '--forward', '--iupac', '-e', '/!x{GNCC}/', path),
                          (0, '>r:2-6(+) x\nGACC\n>r:9-13(+) x\nGRCC\n', ''))
-        self.assertEqual(asked('fasta', '--forward', '--quiet', '-e', '/!x{GNCC}/', path)[1], '')
+        self.assertEqual(asked('fasta', '--forward', '--silent', '-e', '/!x{GNCC}/', path)[1], '')
         # A letter fits those that mean no more than it does: W is A or T, so R, which may be G, does not fit it.
         self.assertEqual(asked('count', '--iupac', '-e', '/!x{a}/', path)[0], 2)
         self.assertEqual(asked('fasta', '--forward', '--iupac', '-e', '/!x{GWCC}/', path)[1], '>r:2-6(+) x\nGACC\n')
@@ -129,7 +129,7 @@ class Sequences(Folder):
         for written, fits in (('R', 'AGR'), ('[R]', 'AGR'), ('[RC]', 'ACGRSMV'), ('[RY]', letters), ('[N]', letters), ('[^R]', 'CTUY'),
                               ('[^RC]', 'TU'), ('[^N]', ''), ('[AG]', 'AG'), ('[^AG]', 'CTURYSWKMBDHVN'), ('[A-Z]', letters), ('[ACGTN]', 'ACGTN'),
                               (r'[\x52]', 'R'), (r'[\wR]', letters)):
-            status, out, told = asked('fasta', '--forward', '--quiet', '--iupac', '-e', '/!x{%s}XX/' % written, path)
+            status, out, told = asked('fasta', '--forward', '--silent', '--iupac', '-e', '/!x{%s}XX/' % written, path)
             self.assertEqual((status, out.split('\n')[1::2]), (0, [letter for letter in letters if letter in fits]), written)
 
     @needs_speed
@@ -138,8 +138,8 @@ class Sequences(Folder):
         reads = os.path.join(EXAMPLES, 'reads.fasta')
         for written, listed, rows in (('[R]GATC', '[AG]GATC', 31), ('[^R]GATC', '[CT]GATC', 20), ('[^Y]GATC', '[AG]GATC', 31), ('[RY]GATC', '[ACGT]GATC', 51),
                                       ('G[N]{2}[^S]C', 'G[ACGT]{2}[AT]C', 121)):
-            found = asked('bed', '--iupac', '--quiet', '-e', '/!x{%s}/' % written, reads)[1]
-            self.assertEqual(found, asked('bed', '--quiet', '-e', '/!x{%s}/' % listed, reads)[1], written)
+            found = asked('bed', '--iupac', '--silent', '-e', '/!x{%s}/' % written, reads)[1]
+            self.assertEqual(found, asked('bed', '--silent', '-e', '/!x{%s}/' % listed, reads)[1], written)
             self.assertEqual(found.count('\n'), rows, written)
 
     def test_iupac_refuses_a_range_of_some_letters(self):
@@ -174,7 +174,7 @@ class Sequences(Folder):
                 told = asked(form, '-e', query, path)[2]
                 self.assertIn('advice at %d: a small letter fits no record' % at, told)
                 self.assertIn('write %s\n' % meant, told)
-        for words in (('/!gatc{GATC}/',), ('/!x{[Gg][a-zA-Z]\\w\\n[^a]}/',), ('/!x{gatc}/', '--quiet'), ('/!x{ga}/i',)):
+        for words in (('/!gatc{GATC}/',), ('/!x{[Gg][a-zA-Z]\\w\\n[^a]}/',), ('/!x{gatc}/', '--silent'), ('/!x{ga}/i',)):
             self.assertNotIn('small letter', asked('bed', '-e', *words, path)[2], words)
         self.assertNotIn('small letter', asked('csv', '-e', '/!x{gatc}/', path)[2])
 
@@ -225,7 +225,7 @@ class Several(Folder):
     def test_too_long_documents_among_others(self):
         long = self.file('long', b'ab\n' * 5)
         with mock.patch.object(packed, 'MOST_BYTES', 10), mock.patch.object(pieces, '_USUAL', 4):
-            status, out, told = asked('count', '-e', '/!x{a[^c]*}b/', '--quiet', self.names[0], long, self.names[3])
+            status, out, told = asked('count', '-e', '/!x{a[^c]*}b/', '--silent', self.names[0], long, self.names[3])
             self.assertEqual((status, without(self.folder, out)), (1, '0 a\n0 b\n0 total\n'))
             self.assertIn('long: no reach: it is too long for one run', told)
             self.assertEqual(asked('count', '-e', '/!x{a}b/', self.names[0], long)[1].split('\n')[1], '5 ' + long)

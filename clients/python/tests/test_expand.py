@@ -160,7 +160,7 @@ class Places(Folder):
         path = self.file('d', 'É'.encode())
         for form in ('csv', 'count', 'lines', 'kwic'):
             self.assertIn('advice at 4: i is for the letters of ASCII', asked(form, '-e', '/!x{é}/i', path)[2])
-            self.assertEqual(asked(form, '-e', '/!x{é}/i', '--quiet', path)[2], '')
+            self.assertEqual(asked(form, '-e', '/!x{é}/i', '--silent', path)[2], '')
         self.assertIn('advice at 4: i is for', asked('check', '-e', '/!x{é}/i')[1])
 
     def test_check_shows_what_the_program_reads(self):

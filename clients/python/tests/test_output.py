@@ -14,7 +14,7 @@ from support import CLIENTS, PYTHON, Folder, needs_speed
 from rematch.view import page
 from rematch.visible import BIDI, visible
 
-QUERY = ('-e', '/!x{a+}/', '--quiet')
+QUERY = ('-e', '/!x{a+}/', '--silent')
 
 
 class Files(Folder):
@@ -118,7 +118,7 @@ class Screens(Folder):
     def test_documents(self):
         document = self.file('d', 'a\x1b[2J\u202eb\x9bc\r\n'.encode())
         for form, more in (('lines', ()), ('csv', ('--columns', 'x')), ('tsv', ('--columns', 'x')), ('freq', ()), ('kwic', ()), ('follow', ('--from-start', '--idle', '0'))):
-            shown = self.shown(form, '-e', r'/!x{a[^\n]*}\n/', '--quiet', *more, document)
+            shown = self.shown(form, '-e', r'/!x{a[^\n]*}\n/', '--silent', *more, document)
             self.assertIn('a·[2J·b·c', shown, form)
             self.assertEqual([sign for sign in shown if sign != '\n' and sign in BIDI + '\x1b\x9b\r'], [sign for sign in shown if sign == '\x1b'][:0 if form not in ('lines', 'kwic') else 2], (form, shown))
         _, out, _ = asked('csv', '-e', r'/!x{a[^\n]*}\n/', '--columns', 'x', document)

@@ -22,27 +22,27 @@ class Ends(unittest.TestCase):
 class Forms(Folder):
     def test_kwic(self):
         path = self.file('d', TEXT)
-        out, told = lines('kwic', '--sentence', '--quiet', '-e', '/[^a-z]!w{tide}[^a-z]/', path)
+        out, told = lines('kwic', '--sentence', '--silent', '-e', '/[^a-z]!w{tide}[^a-z]/', path)
         wanted = ['Dr. J. Gray saw the low [tide].', 'It was... so, e.g. the [tide] rose!', 'A title with a [tide]', 'The end (of the [tide].)', '[tide] 潮。']
         self.assertEqual(([line.split('  ', 1)[1] for line in out], told), (wanted, []))
         self.assertTrue(out[1].startswith(path + ':2  '))
-        self.assertIn('\x1b[1;31mtide\x1b[m]', lines('kwic', '--sentence', '--quiet', '--color', 'always', '-e', '/ !w{tide} /', path)[0][0])
+        self.assertIn('\x1b[1;31mtide\x1b[m]', lines('kwic', '--sentence', '--silent', '--color', 'always', '-e', '/ !w{tide} /', path)[0][0])
 
     def test_tables(self):
         path = self.file('d', TEXT)
-        out, _ = lines('csv', '--sentence', '--quiet', '--columns', 'left,w,right', '-e', '/ !w{low|Ann[.] It} /', path)
+        out, _ = lines('csv', '--sentence', '--silent', '--columns', 'left,w,right', '-e', '/ !w{low|Ann[.] It} /', path)
         self.assertEqual(out, ['left,w,right', '"Dr. J. Gray saw the ",low," tide."', '"""Is it low?"" asked ",Ann. It," was... so, e.g. the tide rose!"'])
-        out, _ = lines('tsv', '--sentence', '--quiet', '--texts', '--var', 'b', '-e', '/!a{saw} the (!b{low})? ?/', path)
+        out, _ = lines('tsv', '--sentence', '--silent', '--texts', '--var', 'b', '-e', '/!a{saw} the (!b{low})? ?/', path)
         self.assertEqual(out[1].split('\t')[-2:], ['"Dr. J. Gray saw the "', '" tide."'])
 
     def test_a_text_without_ends_costs_little(self):
         path = self.file('d', b'a' * 5000 + b' tide ' + b'b' * 5000)
-        out, _ = lines('csv', '--sentence', '--quiet', '--columns', 'left,right', '-e', '/ !w{tide} /', path)
+        out, _ = lines('csv', '--sentence', '--silent', '--columns', 'left,right', '-e', '/ !w{tide} /', path)
         self.assertEqual([len(cell) for cell in out[1].split('","')], [1001, 1001] if '"' in out[1] else [999])
 
     def test_bytes_that_are_no_text(self):
         path = self.file('d', b'One. \xff\xfe tide \xff. Two')
-        self.assertEqual(lines('kwic', '--sentence', '--quiet', '-e', '/ !w{tide} /', path)[0][0].split('  ', 1)[1].count('tide'), 1)
+        self.assertEqual(lines('kwic', '--sentence', '--silent', '-e', '/ !w{tide} /', path)[0][0].split('  ', 1)[1].count('tide'), 1)
 
     def test_refused(self):
         path = self.file('d', TEXT)

@@ -7,6 +7,7 @@ import unittest
 
 import rematch
 from rematch.to import sequences
+from commands import asked
 from support import IS_REFERENCE, Folder, needs
 
 PAIRS = {'A': 'T', 'C': 'G', 'G': 'C', 'T': 'A', 'N': 'N', 'R': 'Y', 'Y': 'R'}
@@ -104,7 +105,7 @@ class Sequences(unittest.TestCase):
         for data in (b'', b'ACGT\n', b' >r\n'):
             with self.assertRaisesRegex(rematch.DocumentError, 'no record of FASTA'):
                 sequences.records_of(data)
-        self.assertEqual([tuple(record) for record in sequences.records_of(b'>\nac\n;note\n g\n>x y\n')], [('', b'ACG'), ('x', b'')])
+        self.assertEqual([tuple(record) for record in sequences.records_of(b'>\nac\n;note\n g\n>x y\n')], [('', b'ACG', 0), ('x', b'', 1)])
 
 
 def written(write, query, data, **words):
@@ -112,6 +113,28 @@ def written(write, query, data, **words):
     query = rematch.Query(query)
     write(sequences.sites(query, data), query.variables, out, **words)
     return out.getvalue().splitlines()
+
+
+class Records(Folder):
+    """Two records of one name are two records."""
+
+    def test_records_of_one_name(self):
+        path = self.file('d', '>Homo a\nGAACC\n>Homo b\nTTCCC\n')
+        words = ('-e', '/!x{GAA}/')
+
+        def places(*more):
+            return [tuple(line.split('\t')[k] for k in (0, 1, 2, 5)) for line in asked('bed', *words, *more, path)[1].splitlines()]
+        both = [('Homo', '0', '3', '+'), ('Homo', '0', '3', '-')]
+        self.assertEqual(places(), both)
+        self.assertEqual(places('--strand-once'), both)
+        self.assertIn("two records are called 'Homo'", asked('bed', *words, path)[2])
+        self.assertEqual(asked('bed', *words, '--silent', path)[2], '')
+        self.assertNotIn('two records', asked('bed', *words, self.file('e', '>Homo\nGAA\n>other\nGAA\n'))[2])
+
+    def test_records_of_one_name_in_order(self):
+        path = self.file('d', '>a\nCGAA\n>b\nGAA\n>a\nGAA\n')
+        found = [line.split('\t')[:2] for line in asked('bed', '-e', '/!x{GAA}/', '--forward', '--sorted', path)[1].splitlines()]
+        self.assertEqual(found, [['a', '1'], ['b', '0'], ['a', '0']])
 
 
 class Written(Folder):

@@ -15,7 +15,7 @@ class Followed(Folder):
     def follow(self, path, *words, query='/!x{a.}/'):
         """A process that follows, and what it has written, line by line."""
         code = 'import sys; sys.argv[0] = "rematch-to"; from rematch.__main__ import run; sys.exit(run())'
-        run = subprocess.Popen([sys.executable, '-c', code, 'follow', '--columns', 'line,x_start,x', '-e', query, '--quiet',
+        run = subprocess.Popen([sys.executable, '-c', code, 'follow', '--columns', 'line,x_start,x', '-e', query, '--silent',
                                 *words, path], stdout=subprocess.PIPE,
                                stderr=subprocess.PIPE, env=dict(os.environ, PYTHONPATH=PYTHON))
         self.addCleanup(self.ended, run)
@@ -85,7 +85,7 @@ class Followed(Folder):
         for data, part in ((gzip.compress(b'a1\n'), 'packed by gzip, and'), (b'\xff\xfea\0', 'UTF-16'), (b'>r\n' + b'ACGT' * 9 + b'\nACGT\n', 'FASTA')):
             words = ('follow', '--idle', '0', '-e', '/!x{a1}/', self.file('d', data))
             self.assertIn(part, asked(*words)[2])
-            self.assertEqual(asked(*words, '--quiet')[2], '')
+            self.assertEqual(asked(*words, '--silent')[2], '')
 
     def test_refusals(self):
         path = self.file('d', b'')

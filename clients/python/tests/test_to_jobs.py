@@ -24,10 +24,10 @@ class Jobs(Folder):
     def same(self, form, *words, query=r'/!x{a\d} !y{b}/', names=None, sizes=(60, 1 << 40)):
         """What two processes write is what one writes."""
         names = names or self.names
-        alone = asked(form, *words, '-e', query, '--quiet', *names)
+        alone = asked(form, *words, '-e', query, '--silent', *names)
         for size in sizes:
             with mock.patch.object(to_jobs, '_LEAST', size):
-                self.assertEqual(asked(form, *words, '--jobs', '2', '-e', query, '--quiet', *names), alone, (form, size))
+                self.assertEqual(asked(form, *words, '--jobs', '2', '-e', query, '--silent', *names), alone, (form, size))
         return alone
 
     def test_each_form(self):

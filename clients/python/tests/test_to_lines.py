@@ -37,7 +37,7 @@ class Lines(Folder):
         for data, query, wanted in ((b'', '/a*/', []), (b'\n', '/!x{}\\n/', ['']), (b'a', '/a/', ['a']),
                                     (b'a\n', '/\\n!x{}/', []), (b'a\nb', '/\\n!x{}/', ['b']),
                                     (b'a\n\nb\n', '/!x{\\n}\\n/', ['a']), (b'ab\nab\n', '/!x{a}b\\n!y{a}/', ['ab', 'ab'])):
-            self.assertEqual(lines('lines', '--quiet', '-e', query, self.file('d', data))[0], wanted, (data, query))
+            self.assertEqual(lines('lines', '--silent', '-e', query, self.file('d', data))[0], wanted, (data, query))
 
     @needs('grep')
     def test_as_grep_has_them(self):
@@ -58,6 +58,25 @@ class Lines(Folder):
                          subprocess.run(['grep', '-C', '1', 'one', *names], stdout=subprocess.PIPE,
                                         universal_newlines=True).stdout.splitlines())
 
+    @needs('grep')
+    def test_the_first_lines_with_those_around(self):
+        """As grep -m N -C K has them."""
+        pick = random.Random(3)
+        for number in range(30):
+            data = ''.join(pick.choice(['w', 'x', 'y', '']) + '\n' for _ in range(pick.randrange(9)))
+            path = self.file('d%d' % number, data)
+            for most, around in ((1, 1), (2, 1), (1, 2), (3, 2)):
+                wanted = subprocess.run(['grep', '-m%d' % most, '-C%d' % around, 'w', path], stdout=subprocess.PIPE).stdout.decode()
+                found = asked('lines', '-n', str(most), '-C', str(around), '-e', '/!x{w}/', path)[1]
+                self.assertEqual(found, wanted, (data, most, around))
+
+    def test_gaps_of_several_processes(self):
+        paths = [self.file('d%03d' % number, 'a\n' * (number % 3) + ('b\n' if number % 5 else 'w\n') + 'c\n') for number in range(40)]
+        one = asked('lines', '-C', '1', '--line-numbers', '-e', '/!x{w}/', *paths)[1]
+        self.assertEqual(one.count('--\n'), 7)
+        for jobs in ('2', '4'):
+            self.assertEqual(asked('lines', '-C', '1', '--line-numbers', '--jobs', jobs, '-e', '/!x{w}/', *paths)[1], one)
+
     def test_refusals(self):
         for words, part in ((('-e', '/a/ join /b/'), 'put !name{..}'), (('-e', 'let x = /a/; x'), 'put !name{..}'),
                             (('-v', '-C', '1', '-e', '/a/'), 'drop -C'),
@@ -67,7 +86,7 @@ class Lines(Folder):
 
     def test_colour(self):
         path = self.file('d', b'aab one\n')
-        self.assertEqual(lines('lines', '--color', 'always', '-e', '/!x{a+}b one/', '--quiet', path)[0],
+        self.assertEqual(lines('lines', '--color', 'always', '-e', '/!x{a+}b one/', '--silent', path)[0],
                          ['\x1b[1;31maa\x1b[mb one'])
         self.assertEqual(lines('lines', '--color', 'always', '-e', '/aa!x{b} !y{o}ne/', path)[0],
                          ['aa\x1b[1;31mb\x1b[m \x1b[1;31mo\x1b[mne'])
@@ -127,11 +146,11 @@ class Counts(Folder):
         self.assertEqual(lines('freq', '-e', query, '--var', 'v,k', one)[0], ['count,v,k', '2,1,a', '1,1,\\xff', '1,2,b'])
         self.assertEqual(lines('freq', '-e', query, one)[0][0], 'count,k,v')
         self.assertEqual(lines('freq', '-n', '1', '-e', query, '--var', 'v', one, two)[0], ['count,v', '3,1'])
-        self.assertEqual(lines('freq', '-e', '/(!x{a})?=/', '--quiet', one)[0], ['count,x', '2,a', '1,'])
+        self.assertEqual(lines('freq', '-e', '/(!x{a})?=/', '--silent', one)[0], ['count,x', '2,a', '1,'])
 
     def test_freq_refuses(self):
         for words, part in ((('-e', '/!x{a}/', '--var', 'y'), 'no variable y: it has x'),
-                            (('-e', '/a/', '--quiet'), 'no variables')):
+                            (('-e', '/a/', '--silent'), 'no variables')):
             status, out, told = asked('freq', *words, self.file('d', b'a'))
             self.assertEqual((status, out, part in told), (2, '', True), told)
 

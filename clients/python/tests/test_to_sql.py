@@ -140,7 +140,7 @@ class Drawn(Folder):
             if number % 4 == 0 and document:
                 document[number % len(document)] = b'\0\xff\xc3'[number % 3]
             run = subprocess.run([PROGRAM, '-e=' + query], input=bytes(document), stdout=subprocess.PIPE, stderr=subprocess.PIPE)
-            status, out, told = asked('sql', 'select * from rows', '--quiet', '-e', 'rows=' + query, stdin=bytes(document))
+            status, out, told = asked('sql', 'select * from rows', '--silent', '-e', 'rows=' + query, stdin=bytes(document))
             self.assertEqual(status, run.returncode, (query, told))
             if status:
                 self.assertTrue(told.startswith(run.stderr.decode().rstrip('\n')), (query, told))

@@ -49,7 +49,7 @@ class Log(Folder):
                 os.utime(os.path.join(self.folder, path), (1_000_000 + self.files, 1_000_000 + self.files))
 
     def run_csv(self, query=QUERY, *words):
-        status, out, told = asked('csv', '--quiet', '--texts', '--state', self.state, '-e', query, *words, self.log)
+        status, out, told = asked('csv', '--silent', '--texts', '--state', self.state, '-e', query, *words, self.log)
         return status, [line.rpartition(',')[2] for line in out.splitlines()[1:]], told
 
 
@@ -74,10 +74,10 @@ class Runs(Log):
 
     def test_head_and_lines(self):
         self.append('x\nfor a from\n')
-        self.assertEqual(asked('csv', '--quiet', '--state', self.state, '-e', QUERY, self.log)[1].replace(self.log, 'log'),
+        self.assertEqual(asked('csv', '--silent', '--state', self.state, '-e', QUERY, self.log)[1].replace(self.log, 'log'),
                          'document,line,u_start,u_end,u\nlog,2,6,7,a\n')
         self.append('x\nfor b from\n')
-        self.assertEqual(asked('tsv', '--quiet', '--state', self.state, '-e', QUERY, self.log)[1].replace(self.log, 'log'),
+        self.assertEqual(asked('tsv', '--silent', '--state', self.state, '-e', QUERY, self.log)[1].replace(self.log, 'log'),
                          'document\tline\tu_start\tu_end\tu\nlog\t4\t19\t20\tb\n')
 
     def test_a_place_that_is_not_found(self):
@@ -92,7 +92,7 @@ class Runs(Log):
     def test_output_in_a_file(self):
         self.append('for a from\n')
         out = os.path.join(self.folder, 'out')
-        self.assertEqual(asked('csv', '--texts', '--quiet', '--state', self.state, '-e', QUERY, '-o', out, self.log), (0, '', ''))
+        self.assertEqual(asked('csv', '--texts', '--silent', '--state', self.state, '-e', QUERY, '-o', out, self.log), (0, '', ''))
         with open(out) as file:
             self.assertEqual(file.read(), 'document,line,u\n%s,1,a\n' % self.log)
         self.append('for b from\n')
@@ -144,7 +144,7 @@ class Runs(Log):
     def rows_of_run(self, query):
         if not os.path.exists(self.log):
             return []
-        status, out, told = asked('csv', '--quiet', '--state', self.state, '-e', query, self.log)
+        status, out, told = asked('csv', '--silent', '--state', self.state, '-e', query, self.log)
         self.assertEqual((status, told), (0, ''))
         cells = [line.split(',') for line in out.splitlines()[1:]]
         return [tuple(int(place) for k in range(2, len(line), 3) for place in line[k:k + 2]) for line in cells]
@@ -153,7 +153,7 @@ class Runs(Log):
 class Following(Log):
     def test_it_goes_on(self):
         self.append('for before from\n')
-        words = ['follow', '--quiet', '--texts', '--state', self.state, '--idle', '1.5', '-e', QUERY, self.log]
+        words = ['follow', '--silent', '--texts', '--state', self.state, '--idle', '1.5', '-e', QUERY, self.log]
         timer = threading.Timer(0.7, self.append, ['for first from\n'])
         timer.start()
         status, out, told = asked(*words)

@@ -47,14 +47,14 @@ class Why(Folder):
 
     def test_command(self):
         path = self.file('log', LOG)
-        out, told = lines('why', '--quiet', '-e', r'/for !user{\w+} from/ where upper(user)', path)
+        out, told = lines('why', '--silent', '-e', r'/for !user{\w+} from/ where upper(user)', path)
         self.assertEqual(out, ['          4  for ', r'          4  !user{\w+}',
                                r"          1   from    3 stop here, the first in line 2: 'for o'>>>'.meyer from '",
                                '          1  rows before the tests', '          0  rows'])
-        out, _ = lines('why', '--quiet', '-e', '/!a{eve}/i union /!b{\nx}/', path, path)
+        out, _ = lines('why', '--silent', '-e', '/!a{eve}/i union /!b{\nx}/', path, path)
         self.assertEqual(out[:2] + out[2].split()[:2], [path, 'at 0: /!a{[Ee][Vv][Ee]}/', '1', '!a{[Ee][Vv][Ee]}'])
         self.assertIn(r'at 25: /!b{\nx}/', out)
-        out, _ = lines('check', '--quiet', '-e', r'/for !x{z}/', path)
+        out, _ = lines('check', '--silent', '-e', r'/for !x{z}/', path)
         self.assertEqual(out[-4:], ['no row on ' + path, '          4  for ', '          0  !x{z}    4 stop here, the first in line 1: '
                                     r"'for '>>>'ada from 1\nf'", '          0  rows'])
         self.assertNotIn('no row', '\n'.join(lines('check', '-e', r'/for !x{a}/', path)[0]))
@@ -112,10 +112,10 @@ class Diff(Folder):
         return status, out.replace(paths[2], 'd').splitlines(), told.replace(self.folder + os.sep, '')
 
     def test_rows(self):
-        self.assertEqual(self.diff(r'/for !user{\w+} /', r'/for !user{[^ ]+} /', LOG, '--quiet'),
+        self.assertEqual(self.diff(r'/for !user{\w+} /', r'/for !user{[^ ]+} /', LOG, '--silent'),
                          (1, ['change,document,line,user_start,user_end,user', 'gained,d,2,19,26,o.meyer', 'gained,d,3,38,44,björn'], 'lost 0, gained 2\n'))
         self.assertEqual(self.diff(r'/for !u{\w+} /', r'let w = /for !u{\w+} /; w', LOG), (0, ['change,document,line,u_start,u_end,u'], 'lost 0, gained 0\n'))
-        status, out, told = self.diff(r'/for !u{\w+} from !n{\d}/', r'/for !u{[^ ]+} /', LOG, '--quiet', '-n', '1')
+        status, out, told = self.diff(r'/for !u{\w+} from !n{\d}/', r'/for !u{[^ ]+} /', LOG, '--silent', '-n', '1')
         self.assertEqual((status, out[1:]), (1, ['gained,d,2,19,26,o.meyer']))
         self.assertEqual(told, 'compared by u: n is in old alone\nlost 0, gained 3\n')
         self.assertEqual(self.diff('/!x{a}/ where luhn(x)', '/!x{a}/', b'a')[:2], (1, ['change,document,line,x_start,x_end,x', 'gained,d,1,0,1,a']))
@@ -145,7 +145,7 @@ class Diff(Folder):
                 rows = [set(rematch.Query(text).rows(document)) for text in texts]
             except rematch.RematchError:
                 continue
-            status, out, _ = self.diff(texts[0], texts[1], document, '--quiet')
+            status, out, _ = self.diff(texts[0], texts[1], document, '--silent')
             self.assertEqual(status, int(rows[0] != rows[1]), texts)
             found = list(csv.DictReader(io.StringIO('\n'.join(out))))
             for change, wanted in (('lost', rows[0] - rows[1]), ('gained', rows[1] - rows[0])):

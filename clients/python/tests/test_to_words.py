@@ -139,7 +139,7 @@ class Advice(Folder):
             query = '/a!x{b[:digit:]?}/'
             status, out, told = asked(form, '-e', query, path)
             self.assertEqual((status, told.split(': ')[0], told.count('\n')), (0, 'advice at 6', 1), form)
-            self.assertEqual(asked(form, '-e', query, path, '--quiet'), (0, out, ''), form)
+            self.assertEqual(asked(form, '-e', query, path, '--silent'), (0, out, ''), form)
 
     def test_open_ends_are_told_of_the_rows(self):
         """Where rows are read to their end they say it themselves; else the text of the query does."""

@@ -56,7 +56,7 @@ class Windows(Folder):
         with mock.patch.object(sequences, '_WINDOW', 10), mock.patch.object(sequences, '_BATCH', 1):
             self.assertEqual(asked('bed', '-e', '/!x{GATC}/', path), whole)
             with mock.patch.object(sequences, 'MOST_BYTES', 40):
-                status, _, told = asked('bed', '--quiet', '-e', '/!x{GA+}/', path)
+                status, _, told = asked('bed', '--silent', '-e', '/!x{GA+}/', path)
                 self.assertEqual((status, 'hint: the record r' in told), (6, True))
 
     def test_length(self):

@@ -10,7 +10,7 @@ from ..faults import RematchError
 from .._reach import NoReach
 from .output import Screen
 
-__all__ = ['MEGABYTE', 'REFUSED', 'add_memory', 'line_of', 'run_told']
+__all__ = ['MEGABYTE', 'REFUSED', 'add_memory', 'is_watched', 'line_of', 'run_told']
 
 REFUSED = 4  # of what has no reach, which is a refusal for its size
 MEGABYTE = 1_000_000
@@ -25,6 +25,11 @@ def add_memory(parser: Any) -> None:
         return found
     megabytes.__name__ = 'number of megabytes'
     parser.add_argument('--memory', type=megabytes, default=2000, metavar='MB', help='the memory that the program may take, in megabytes (2000)')
+
+
+def is_watched() -> bool:
+    """Whether somebody sees the notes as they come."""
+    return sys.stderr is not None and sys.stderr.isatty()
 
 
 def line_of(fault: Exception) -> str:

@@ -14,7 +14,7 @@ from ..faults import CursorError, DocumentError, OutOfMemory, QueryError, Rematc
 from ..match import Row
 from ..pieces import NoReach, reach
 from ..query import Query
-from .command import line_of, run_told
+from .command import is_watched, line_of, run_told
 from .expand import Expanded, captured, expanded
 from .doubts import doubts_of, has_anchors_alone, has_several_lines, oddity_of
 from .encodings import converted, in_form
@@ -115,12 +115,13 @@ class Command:
         return self.given.form == 'lines' or bool(self.given.lines)
 
     def tell(self, line: str) -> None:
-        """Tells what a reader may not expect, where that is wanted."""
-        if not self.given.quiet:
+        """Tells what a reader may not expect of documents and rows, where that is wanted."""
+        if not self.given.silent:
             print(line, file=sys.stderr)
 
     def tell_advice(self) -> None:
-        if self.given.form == 'check' or self.given.list is not None:
+        """Tells advice on the query on a terminal, where it is wanted."""
+        if self.given.form == 'check' or self.given.list is not None or self.given.quiet or self.given.silent or not is_watched():
             return
         is_told = self.given.form == 'count' and not self.query.variables
         if is_told:
@@ -198,7 +199,7 @@ class Command:
 
     def tell_of_rows(self, found: Given, seen: List[Row]) -> None:
         """What the rows say of the query, once for all documents."""
-        if seen and not self.given.quiet and not self.has_told_of_rows:
+        if seen and not self.given.silent and not self.has_told_of_rows:
             told = doubts_of_rows(self.query.variables, seen, found.data)  # type: ignore[arg-type]
             self.has_told_of_rows = bool(told)
             for doubt in told:
@@ -206,7 +207,7 @@ class Command:
 
     def tell_of_head(self, found: Given) -> None:
         """The same from the rows of the document's beginning, where rows are counted and not read."""
-        if not self.given.quiet and self.query.variables and not self.has_told_of_rows:
+        if not self.given.silent and self.query.variables and not self.has_told_of_rows:
             head = found if found.document is not None and found.size <= _HEAD else Given(found.name, Document(found.data[:_HEAD]))
             self.tell_of_rows(head, list(islice(head.rows(self.query), MOST_SEEN)))
             self.has_told_of_rows = True  # which is looked at in the first document that has rows
@@ -224,7 +225,7 @@ class Command:
         has_read = False
         for part, value in self.values(form, jobs) if jobs > 1 else self.values_in_turn(form):
             has_read = True
-            self.out.writelines(self.begun(value if form.is_text else form.take(part, value)))
+            self.out.writelines(self.begun(form.joined(value) if form.is_text else form.take(part, value)))
             if form.left == 0 and form.is_text:
                 break
         if has_read:
@@ -246,7 +247,7 @@ class Command:
                 part = Part(name)
                 value = form.of(self.opened(part))
                 if form.is_text:
-                    self.out.writelines(self.begun(value))  # here, so that a fault in the midst of it is this document's
+                    self.out.writelines(self.begun(form.joined(value)))  # here, so that a fault in the midst of it is this document's
                     value = ()
                 yield part, value
 

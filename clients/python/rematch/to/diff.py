@@ -150,7 +150,8 @@ def _parser() -> _Parser:
     parser.add_argument('documents', nargs='*', metavar='DOC')
     parser.add_argument('-n', dest='most', type=int, metavar='N', help='at most so many lost rows and so many gained ones; all are counted')
     parser.add_argument('-o', dest='out', metavar='NAME', help='write there')
-    parser.add_argument('--quiet', action='store_true', help='no advice on the queries and none on the documents')
+    parser.add_argument('--quiet', action='store_true', help='no advice on the queries, which is written on a terminal alone')
+    parser.add_argument('--silent', action='store_true', help='no advice, and no warnings of documents and rows')
     parser.add_argument('--filter', action='store_true', help='read only where a query touches a document')
     parser.add_argument('--max-table', type=int, metavar='W', help='the most that the table of a reading may weigh')
     parser.add_argument('-h', '--help', action='help', help='how it is used')
@@ -158,7 +159,7 @@ def _parser() -> _Parser:
 
 
 def _words_of(name: str, given: argparse.Namespace) -> Any:
-    words = ['csv', '-q', name] + ['--quiet'] * given.quiet + ['--filter'] * given.filter
+    words = ['csv', '-q', name] + ['--quiet'] * given.quiet + ['--silent'] * given.silent + ['--filter'] * given.filter
     return read_words(words + ([] if given.max_table is None else ['--max-table', str(given.max_table)]))
 
 

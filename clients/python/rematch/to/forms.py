@@ -6,6 +6,7 @@ from collections import Counter
 from itertools import islice
 from typing import TYPE_CHECKING, Any, Dict, Iterable, Iterator, List, NoReturn, Optional, Sequence, Tuple, Type
 
+from ..match import Row
 from .packed import Given
 from .tables import Context, Layout, Table, concordance, json_lines, sorted_contexts
 from .jobs import Part
@@ -44,6 +45,10 @@ class Form:
     def of(self, found: Given) -> Any:
         """What is made of a document, or of a piece of one."""
         raise NotImplementedError
+
+    def joined(self, texts: Iterable[str]) -> Iterable[str]:
+        """The texts of a document, of which there may be others before it."""
+        return texts
 
     def take(self, part: Part, value: Any) -> Iterable[str]:
         """What is written once the value of a part is there."""
@@ -167,6 +172,9 @@ class _Kwic(Form):
         yield from map(self.shown, islice(sorted_contexts(self.found, self.given.sort), self.given.most))
 
 
+_GAP = '--\n'
+
+
 class _Lines(Form):
     takes_pieces = False
 
@@ -181,16 +189,25 @@ class _Lines(Form):
         data: bytes = found.data  # type: ignore[assignment]
         name = f'{found.name}:' if len(self.command.names) > 1 else ''
         around, is_coloured = self.given.around or 0, self.command.is_coloured
+        left_around = around  # lines after the last one that is asked for
         for line in shown_lines(found, self.command.rows(found), around, others=bool(self.given.others), keep=is_coloured):
-            is_counted = line.is_touched
-            if self.left == 0:
-                return
-            if self.left is not None and is_counted:
+            is_counted = line.is_touched and self.left != 0
+            if self.left == 0:  # a line after the last one, as grep has it
+                if line.is_behind_a_gap or not left_around or not is_begun:
+                    return
+                left_around -= 1
+            elif self.left is not None and is_counted:
                 self.left -= 1
-            gap = '--\n' if around and not self.is_first and (line.is_behind_a_gap or not is_begun) else ''
-            self.is_first, is_begun = False, True
+            gap = _GAP if around and (line.is_behind_a_gap or not is_begun) else ''
+            is_begun = True
             place = name + (f'{line.number}:' if self.given.line_numbers else '')
             yield f'{gap}{place if is_counted else place.replace(":", "-")}{line.text(data, is_coloured=is_coloured)}\n'
+
+    def joined(self, texts: Iterable[str]) -> Iterator[str]:
+        """The texts, of which the first of all documents has no gap before it."""
+        for text in texts:
+            yield text[len(_GAP):] if self.is_first and text.startswith(_GAP) and self.given.around else text
+            self.is_first = False
 
 
 class _Count(Form):
@@ -244,11 +261,23 @@ class _Freq(Form):
         if not self.names:
             refuse('the query has no variables, and counts are of their texts: put !name{..} around what is counted')
         self.counts: 'Counter[Tuple[bytes, ...]]' = Counter()
+        self.at = [2 * self.query.variables.index(name) for name in self.names]
+        self.takes_pieces = bool(self.given.rows) or set(self.names) == set(self.query.variables)  # each row has places of its own then
 
     def of(self, found: Given) -> 'Counter[Tuple[bytes, ...]]':
         data: bytes = found.data  # type: ignore[assignment]
-        at = [2 * self.query.variables.index(name) for name in self.names]
-        return Counter(tuple([data[row[k]:row[k + 1]] if row[k] >= 0 else b'' for k in at]) for row in self.command.rows(found))
+        rows = self.command.rows(found)
+        return Counter(tuple([data[row[k]:row[k + 1]] if row[k] >= 0 else b'' for k in self.at])
+                       for row in (rows if self.takes_pieces else self.places(rows)))
+
+    def places(self, rows: Iterable[Row]) -> Iterator[Row]:
+        """The rows without those whose spans of what is counted an earlier one has; where one is absent, each row counts."""
+        seen = set()
+        for row in rows:
+            place = tuple([place for k in self.at for place in row[k:k + 2]])
+            if min(place) < 0 or place not in seen:
+                seen.add(place)
+                yield row
 
     def take(self, part: Part, value: 'Counter[Tuple[bytes, ...]]') -> Iterable[str]:
         self.counts.update(value)
@@ -280,13 +309,16 @@ class _Places(Form):
         every = sites(self.query, data, both=not self.given.forward, left_out=self.left_out(found))
         if self.given.strand_once:
             every = once(every)
-        return self.command.progress.counted(in_order(every, data) if self.given.sorted else every)
+        return self.command.progress.counted(in_order(every) if self.given.sorted else every)
 
     def tell_letters(self, name: str, data: bytes) -> None:
         from .nucleotides import has_plain_t, open_letters
-        from .sequences import are_proteins, are_rna, has_records
+        from .sequences import are_proteins, are_rna, has_records, name_of_two
         if not has_records(data):
             return  # which is a fault, told alone
+        twice = name_of_two(data)
+        if twice is not None:
+            self.command.tell(f'{name}: two records are called {twice!r}, so a place in it may be of either')
         is_protein = are_proteins(data)
         if is_protein and not self.given.forward:
             self.command.tell(f'{name}: it has letters of proteins, which have no other strand: --forward leaves it out')

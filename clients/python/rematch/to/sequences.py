@@ -10,7 +10,8 @@ from __future__ import annotations
 
 import re
 from bisect import bisect_right
-from typing import Callable, Dict, Iterable, Iterator, List, NamedTuple, Optional, Sequence, TextIO, Tuple
+from itertools import count
+from typing import Callable, Iterable, Iterator, List, NamedTuple, Optional, Sequence, Set, TextIO, Tuple
 from urllib.parse import quote
 
 from ..documents import MOST_BYTES
@@ -21,7 +22,7 @@ from ..reader import read
 from .._reach import NoReach, length_of_printed
 
 __all__ = ['GFF_HEAD', 'Record', 'Site', 'are_proteins', 'bed_lines', 'each_record', 'fasta_lines', 'frame_of', 'gff_lines',
-           'has_anchor', 'has_records', 'in_order', 'once',
+           'has_anchor', 'has_records', 'in_order', 'name_of_two', 'once',
            'other_strand', 'records_of', 'sites', 'write_bed', 'write_gff']
 
 _BATCH = 64_000_000  # bytes of records that one run searches
@@ -34,10 +35,11 @@ _OTHER_RNA = bytes.maketrans(b'ACGURYKMBVDHSWN', b'UGCAYRMKVBHDSWN')
 
 
 class Record(NamedTuple):
-    """A sequence of a file: the first word of its head, and its letters, in capitals."""
+    """A sequence of a file: the first word of its head, its letters, in capitals, and how many records are before it."""
 
     name: str
     letters: bytes
+    number: int = 0
 
 
 class Site(NamedTuple):
@@ -65,7 +67,7 @@ def records_of(data: bytes) -> List[Record]:
     """The records of a file of sequences; `DocumentError` where it has none.
 
     >>> records_of(b'>chr1 one\\nGAT\\r\\ntaca\\n>chr2\\n')
-    [Record(name='chr1', letters=b'GATTACA'), Record(name='chr2', letters=b'')]
+    [Record(name='chr1', letters=b'GATTACA', number=0), Record(name='chr2', letters=b'', number=1)]
     """
     return list(each_record(data))
 
@@ -75,10 +77,29 @@ def each_record(data: bytes) -> Iterator[Record]:
     at = _first_record(data)
     if at < 0:
         raise DocumentError('no record of FASTA, which begins with > at the start of a line', 5)
-    while at >= 0:
+    for number in count():
         end = data.find(b'\n>', at)
-        yield _record(data, at, end if end >= 0 else len(data))
-        at = end + 1 if end >= 0 else -1
+        yield _record(data, at, end if end >= 0 else len(data), number)
+        if end < 0:
+            return
+        at = end + 1
+
+
+def name_of_two(data: bytes) -> Optional[str]:
+    """The first name that an earlier record has too; None where each record has its own.
+
+    >>> name_of_two(b'>a one\\nG\\n>b\\n>a two\\nG\\n'), name_of_two(b'>a\\n>b\\n')
+    ('a', None)
+    """
+    names: Set[str] = set()
+    at = _first_record(data)
+    while at >= 0:
+        name = _name(data, at, len(data))[0]
+        if name in names:
+            return name
+        names.add(name)
+        at = data.find(b'\n>', at) + 1 or -1
+    return None
 
 
 def _first_record(data: bytes) -> int:
@@ -94,11 +115,16 @@ def has_records(data: bytes) -> bool:
     return _first_record(data) >= 0
 
 
-def _record(data: bytes, at: int, end: int) -> Record:
+def _record(data: bytes, at: int, end: int, number: int) -> Record:
+    name, letters_at = _name(data, at, end)
+    return Record(name, _letters(data, letters_at, end), number)
+
+
+def _name(data: bytes, at: int, end: int) -> Tuple[str, int]:
+    """The first word of the head at a place, and where the letters begin."""
     head_end = data.find(b'\n', at, end)
     head = data[at + 1:head_end if head_end >= 0 else end].split()
-    letters = _letters(data, head_end + 1, end) if head_end >= 0 else b''
-    return Record(head[0].decode('utf-8', 'backslashreplace') if head else '', letters)
+    return head[0].decode('utf-8', 'backslashreplace') if head else '', head_end + 1 if head_end >= 0 else end
 
 
 def _letters(data: bytes, start: int, end: int) -> bytes:
@@ -143,15 +169,11 @@ def are_rna(data: bytes) -> bool:
     return b'U' in letters and b'T' not in letters
 
 
-def in_order(found: Iterable['Site'], data: bytes) -> Iterator['Site']:
+def in_order(found: Iterable['Site']) -> Iterator['Site']:
     """The sites by the records of the file, and in each by the place of their first letter; all of them are held."""
-    numbers: Dict[str, int] = {}
-    for number, record in enumerate(each_record(data)):
-        numbers.setdefault(record.name, number)
-
     def place(site: 'Site') -> Tuple[int, int, int]:
         spans = [span for span in zip(site.row[::2], site.row[1::2]) if span[0] >= 0]
-        return numbers[site.record.name], min(start for start, _ in spans), max(end for _, end in spans)
+        return site.record.number, min(start for start, _ in spans), max(end for _, end in spans)
 
     return iter(sorted(found, key=place))
 
@@ -350,7 +372,7 @@ def once(found: Iterable[Site]) -> Iterator[Site]:
     """
     seen = set()
     for site in found:
-        key = site.record.name, tuple(sorted(zip(site.row[::2], site.row[1::2])))
+        key = site.record.number, tuple(sorted(zip(site.row[::2], site.row[1::2])))
         if site.strand == '+':
             seen.add(key)
         elif key in seen:

@@ -246,7 +246,8 @@ def _parser() -> _Parser:
     parser.add_argument('--csv', dest='tables', action='append', default=[], metavar='TABLE=FILE', help='one more table, from a file of CSV (or .tsv)')
     parser.add_argument('--tsv', action='store_true', help='write tabs in place of commas')
     parser.add_argument('-o', dest='out', metavar='NAME', help='write there')
-    parser.add_argument('--quiet', action='store_true', help='no advice on the queries and none on the documents')
+    parser.add_argument('--quiet', action='store_true', help='no advice on the queries, which is written on a terminal alone')
+    parser.add_argument('--silent', action='store_true', help='no advice, and no warnings of documents and rows')
     parser.add_argument('--filter', action='store_true', help='read only where a query touches a document')
     parser.add_argument('--max-table', type=int, metavar='W', help='the most that the table of a reading may weigh')
     parser.add_argument('-h', '--help', action='help', help='how it is used')
@@ -269,7 +270,7 @@ def _sources(given: argparse.Namespace) -> List[Source]:
 def _words_of(source: Source, given: argparse.Namespace) -> Words:
     """The words that a query is read with, as for a table."""
     words = ['csv', '-q' if source.is_file else '-e', source.text]
-    words += ['--quiet'] * given.quiet + ['--filter'] * given.filter
+    words += ['--quiet'] * given.quiet + ['--silent'] * given.silent + ['--filter'] * given.filter
     words += [] if given.max_table is None else ['--max-table', str(given.max_table)]
     return read_words(words)
 

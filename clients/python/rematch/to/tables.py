@@ -118,6 +118,10 @@ class Table:
         if missing is not None:
             raise ValueError(f'there is no column {missing!r}: there are {", ".join(every)}' + ('' if around
                                                                                                 else ', and with --context or --sentence left and right'))
+        twice = next((name for name in self._names if every.count(name) > 1), None)
+        if twice is not None:
+            raise ValueError(f'two columns would be called {twice!r}: give the variable another name' + ('' if layout.columns else
+                             ', or say by --columns which columns there are'))
         if layout.middle is not None and layout.middle not in query.variables:
             raise ValueError(f'the query has no variable {layout.middle}')
         self._is_usual = list(self._names) == every and not around and not layout.is_in_characters
@@ -150,7 +154,7 @@ class Table:
                                                                                  base + len(data) + 1)  # type: ignore[arg-type]
         makers = [self._maker(name, given, lambda place: number(place) + first_line - 1, told) for name in self._names]
         for row in rows:
-            yield delimiter.join([maker(row) for maker in makers]) + '\n'
+            yield (delimiter.join([maker(row) for maker in makers]) or '""') + '\n'  # readers of tables pass over an empty line
 
     def _maker(self, name: str, given: Given, number: Callable[[int], int], told: Any) -> Callable[[Row], str]:
         """What makes the cells of a column."""

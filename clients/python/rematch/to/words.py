@@ -111,7 +111,8 @@ _OPTIONS = (
     _option('--glob', (), dest='patterns', action='append', metavar='PATTERN', help='with -r: files of these names alone, as *.log'),
     _option('--files-from', (), dest='listed', metavar='FILE', help='the documents that this file names too, one on each line'),
     _option('--no-head', (*_TABLES, 'freq'), action='store_true', help='no line with the names of the columns'),
-    _option('--quiet', (), action='store_true', help='no advice on the query and none on the documents'),
+    _option('--quiet', (), action='store_true', help='no advice on the query, which is written on a terminal alone'),
+    _option('--silent', (), action='store_true', help='no advice, and no warnings of documents and rows'),
     _option('--filter', (), action='store_true', help='read only where the query touches a document'),
     _option('--max-table', (), type=int, metavar='W', help='the most that the table of a reading may weigh'),
     _option('--jobs', _JOBS, type=int, metavar='N', help='so many documents, and pieces of long ones, side by side (1)'),
@@ -135,6 +136,7 @@ _OPTIONS = (
     _option('-C', ('lines',), dest='around', type=int, metavar='N', help='so many lines before and after, too'),
     _option('-v', ('lines',), dest='others', action='store_true', help='the lines that no row touches'),
     _option('--line-numbers', ('lines',), action='store_true', help='the number of each line before it'),
+    _option('--rows', ('freq',), action='store_true', help='count rows, and not the places where the texts are'),
     _option('--lines', ('count',), action='store_true', help='count the lines that a row touches'),
     _option('--forward', _PLACES, action='store_true', help='the forward strand alone'),
     _option('--iupac', (*_PLACES, 'check'), action='store_true', help='letters such as N, R, Y in the query stand for what they mean, in classes too'),
@@ -430,7 +432,7 @@ def hint_of_words(words: Sequence[str]) -> Optional[str]:
 
 def _without_words_of_the_program(words: Sequence[str]) -> List[str]:
     """The words of check, without those that only the program has; what is wrong with them is told, with status 2."""
-    own = [word for word in words[1:] if word not in ('--quiet', '--expanded', '--iupac')]
+    own = [word for word in words[1:] if word not in ('--quiet', '--silent', '--expanded', '--iupac')]
     hint = hint_of_program_words(own)
     if hint is not None:
         print(f'rematch-to: {hint}', file=sys.stderr)
