@@ -7,7 +7,6 @@ session takes has a run. With the library in this process it is asked in their p
 """
 from __future__ import annotations
 
-import re
 from itertools import chain, islice, repeat
 from typing import TYPE_CHECKING, Any, FrozenSet, Iterable, Iterator, List, Optional, Tuple, Union
 
