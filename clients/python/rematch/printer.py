@@ -1,6 +1,7 @@
 """A tree in the program's own form, as `--explain` prints it: sets as runs of bytes, characters as the bytes of their UTF-8."""
 from __future__ import annotations
 
+from functools import lru_cache
 from typing import Callable, Dict, List, Optional, Tuple, Type
 
 from . import sets
@@ -125,6 +126,7 @@ def _set_text(some: Ranges) -> str:
 
 # -- Sets of characters
 
+@lru_cache(maxsize=256)
 def _characters(some: Ranges) -> _Text:
     """The formula of a set of characters: of their texts of one byte, of two, of three and of four."""
     arms = []
