@@ -84,7 +84,7 @@ class Rows(Folder):
         path, document = self.file('words', '\n'.join(words)), self.file('text', text)
         out, told = lines('count', '--words', path, document)
         self.assertEqual((out, told), (['%d %s' % (sum(word in words for word in text.split(' ')), document)], []))
-        self.assertLess(time.monotonic() - begun, 60)  # 3 s where the machine has nothing else to do
+        self.assertLess(time.monotonic() - begun, 300)  # 3 s where the machine has nothing else to do
         halves = self.file('long', (text + '\n') * 8)
         self.assertEqual(lines('count', '--words', path, '--jobs', '2', halves)[0], ['%d %s' % (8 * int(out[0].split()[0]), halves)])
 
