@@ -1,5 +1,5 @@
 //! Queries that own what they were compiled to.
-ghost use Rattle.std.specs.Prelude.{◌≡◌, ℕ, ◌+◌, ◌^◌, ◌≤◌, ◌⊎◌, Bool, length, IfErr, IfOk, IsErrOf, OnOk};
+ghost use Rattle.std.specs.Prelude.{◌≡◌, ℕ, ◌+◌, ◌^◌, ◌≤◌, Bool, length, IfErr, IfOk, IsErrOf, OnOk};
 ghost use Rattle.std.specs.Option.{IfSome, option_copied};
 ghost use Rattle.spanner_model.specs.Answers.{AreResultNames};
 ghost use Rattle.query_automaton.specs.Parts.{AtomsAreSmall};
@@ -132,7 +132,6 @@ impl<J: Judge> Prepared<J> {
         ensures other { (kept : ℕ) → KeepsOther (length document.now) (option_copied after.entry) kept →
             IsErrOf result (CursorOther kept (length document.now)) }
         ensures place { IsPast (length document.now) (option_copied after.entry) → IsErrOf result CursorPlace }
-        ensures still { (kept found : ℕ) → IsErrOf result CursorPlace ⊎ IsErrOf result (CursorOther kept found) → steps.new ≡ steps.old }
         ensures fault { IfErr result (IsBeginFault (tree self.now).query document.now options.filter
             (option_copied after.entry) options.limit) }
         ensures weighs { OnOk result (IsReadWithin self.now.graph (tree self.now).query document.now options.filter options.limit) }
@@ -179,7 +178,6 @@ impl<J: Judge> Prepared<J> {
         ensures other { (kept : ℕ) → KeepsOther (length document.now) (option_copied after.entry) kept →
             IsErrOf result (CursorOther kept (length document.now)) }
         ensures place { IsPast (length document.now) (option_copied after.entry) → IsErrOf result CursorPlace }
-        ensures still { (kept found : ℕ) → IsErrOf result CursorPlace ⊎ IsErrOf result (CursorOther kept found) → steps.new ≡ steps.old }
         ensures fault { IfErr result (IsBeginFault (tree self.now).query document.now options.filter
             (option_copied after.entry) options.limit) }
         ensures weighs { OnOk result (IsReadWithin self.now.graph (tree self.now).query document.now options.filter options.limit) }

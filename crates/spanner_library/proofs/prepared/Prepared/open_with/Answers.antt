@@ -1,5 +1,4 @@
-use Rattle.std.proofs.Common.{◌+◌, ◌≤◌, ◌⊎◌, ℕ, Bool, List, subst, sym}
-use Rattle.std.specs.Prelude.{IsErrOf}
+use Rattle.std.proofs.Common.{◌+◌, ◌≤◌, ℕ, Bool, List, subst, sym}
 use Rattle.std.specs.Option.{option_copied}
 use Rattle.spanner_engine.specs.Begun.{AreRead, IsReadWithin, begin_steps, counted, row_kept}
 use Rattle.spanner_engine.specs.Caching.{rebuild}
@@ -7,7 +6,6 @@ use Rattle.spanner_model.specs.Answers.{SpanRow}
 use Rattle.spanner_model.specs.ExprView.{query_of}
 use Rattle.spanner_engine.specs.Filtering.{AreAtomsWithin}
 use Rattle.spanner_engine.specs.Fitting.{AreLast}
-use Rattle.spanner_engine.specs.declared.beginning.BeginFault.TheVariants.{CursorOther, CursorPlace}
 use Rattle.spanner_engine.proofs.PassingLaws.{left_last}
 use Rattle.spanner_library.specs.Library.{PreparedQuery, tree}
 use Rattle.spanner_library.proofs.prepared.Prepared.open_with.Goals as goal
@@ -44,7 +42,3 @@ returns-in-Ok-clause-weighs g c =
 pub returns-in-Ok-clause-atoms : goal.returns-in-Ok-clause-atoms
 returns-in-Ok-clause-atoms g c =
     subst (λ (p : PreparedQuery). AreAtomsWithin (tree p).query c.args.document.now c.args.options.filter c.args.options.limit) c.self.view_is c.in-Ok.ensures.atoms
-
-pub returns-in-Err-clause-still : goal.returns-in-Err-clause-still
-returns-in-Err-clause-still g c = λ kept found is.
-    c.begin_with.ensures.still kept found (subst (λ r. IsErrOf r CursorPlace ⊎ IsErrOf r (CursorOther kept found)) (sym c.in-Err.is) is)
