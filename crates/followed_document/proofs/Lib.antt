@@ -8,3 +8,4 @@ pub mod Rebasing
 pub mod Shifting
 pub mod Steps
 pub mod Told
+pub mod IdleEnds
