@@ -1,8 +1,7 @@
 -- Choices of edges over the bytes of pieces: where their blocks stand, and that a word tells its choice.
-use Rattle.std.proofs.Common.{◌≡◌, ℕ, suc, ◌+◌, ◌<◌, ◌≤◌, Bool, true, false, List, [], ◌∷◌, ◌++◌, length, inl, inr, refl, sym, ap, subst, arith, ◌∙◌, length-append, append_assoc}
+use Rattle.std.proofs.Common.{◌≡◌, ℕ, suc, ◌+◌, ◌<◌, ◌≤◌, Bool, true, false, List, [], ◌∷◌, ◌++◌, length, inl, inr, refl, sym, ap, subst, arith, ◌∙◌}
 use Rattle.std.specs.Prelude.{if◌then◌else◌, map, nat_eq}
 use Rattle.std.proofs.lemmas.Bool.{eqb-true}
-use Rattle.std.proofs.lemmas.List.{append-nil}
 use Rattle.span_core.specs.Lists.{Has}
 use Rattle.span_core.proofs.HasLaws.{Has-append_cases, Has-map_cases}
 use Rattle.marked_automaton.specs.declared.way.Way.{Way}
@@ -12,7 +11,6 @@ use Rattle.node_arena.specs.Words.{Word}
 use Rattle.output_graph.specs.Forward.{mark_block}
 use Rattle.one_pass.specs.Places.{Leads, byte_at, bytes_at, end_at}
 use Rattle.one_pass.proofs.PlaceLaws.{block_at}
-use Rattle.followed_document.specs.Settling.{joined}
 
 -- ---- where blocks stand
 

@@ -1,7 +1,6 @@
 -- The words that are given piece by piece are those that are settled, each once.
 use Rattle.std.proofs.Common.{◌≡◌, ℕ, ◌+◌, ◌<◌, ◌≤◌, true, false, List, [], ◌∷◌, ◌++◌, length, inl, inr, refl, sym, ap, subst, arith, ◌∙◌, length-append, append_assoc}
 use Rattle.std.proofs.lemmas.List.{append-nil}
-use Rattle.span_core.specs.Lists.{Has}
 use Rattle.span_core.proofs.HasLaws.{Has-append_cases, Has-append_left, Has-append_right, Has-slice_get}
 use Rattle.marked_automaton.specs.Automaton.{Automaton, Marked}
 use Rattle.automaton_reading.specs.Reading.{set_of}

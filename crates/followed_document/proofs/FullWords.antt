@@ -1,16 +1,16 @@
 -- No word of a row that has all its spans goes on as that of another such row.
-use Rattle.std.proofs.Common.{◌≡◌, ℕ, suc, ◌+◌, ◌<◌, Bool, true, false, List, [], ◌∷◌, ◌++◌, length, get_or, Option, Some, None, inl, inr, refl, sym, ap, subst, arith, ◌∙◌, length-append}
+use Rattle.std.proofs.Common.{◌≡◌, ℕ, suc, ◌+◌, ◌<◌, Bool, true, false, [], ◌∷◌, ◌++◌, length, get_or, Option, Some, None, inl, refl, sym, ap, subst, arith, ◌∙◌, length-append}
 use Rattle.std.specs.Prelude.{if◌then◌else◌, ◌==◌}
 use Rattle.std.specs.Int.{bit_at}
 use Rattle.std.specs.List.{All}
 use Rattle.span_core.specs.declared.span.Span.{Span}
 use Rattle.span_core.specs.Block.{block, closing_bit, marker, markers, markers_from, opening_bit}
-use Rattle.span_core.specs.Blocks.{IsBlockList, IsRowOfBlocks, listed}
+use Rattle.span_core.specs.Blocks.{IsRowOfBlocks, listed}
 use Rattle.span_core.proofs.BlockBits.{bit_positive, end_is, marked_present, row_closes, row_opens, set_here, start_is}
 use Rattle.span_core.proofs.BlocksOfRow.{same_lists}
 use Rattle.enumerator.specs.Enumeration.{SpanRow}
 use Rattle.node_arena.specs.Words.{Word}
-use Rattle.followed_document.specs.Laws.{FullWordsEnd, IsFullWord}
+use Rattle.followed_document.specs.Laws.{FullWordsEnd}
 
 -- what is listed in front is listed of the whole
 listed_front : (w x : Word) (at : ℕ) → 0 < listed w at → listed (w ++ x) at ≡ listed w at

@@ -1,11 +1,11 @@
 -- What fits a part of a document fits it where the document grows; so no answer goes, but by an end or a difference.
-use Rattle.std.proofs.Common.{◌≡◌, ℕ, zero, suc, ◌+◌, ◌≤◌, Bool, true, false, List, [], ◌∷◌, ◌++◌, length, Option, Some, None, inl, inr, refl, sym, ap, subst, arith, ◌∙◌, length-append, true≢false}
+use Rattle.std.proofs.Common.{◌≡◌, ℕ, zero, suc, Bool, true, false, List, [], ◌∷◌, ◌++◌, length, Option, Some, None, inl, inr, arith, length-append, true≢false}
 use Rattle.std.proofs.lemmas.Bool.{false≢true}
 use Rattle.std.specs.Prelude.{slice_get, nat_eq, MatchBool, IsTrue}
 use Rattle.std.specs.Option.{IsSomeAnd}
 use Rattle.spanner_model.specs.Answer.{Answer, answers_of_lets, vars_of_lets}
 use Rattle.spanner_model.specs.Captures.{Captures, Mapping, VarName}
-use Rattle.spanner_model.specs.Expression.{AtomTree, ExprTree, QueryTree, atom, named, union_end, union, join_end, join, project, minus}
+use Rattle.spanner_model.specs.Expression.{ExprTree, atom, named, union_end, union, join_end, join, project, minus}
 use Rattle.spanner_model.specs.Fit.{Fit, Piece, Times}
 use Rattle.spanner_model.specs.Tree.{Tree, empty, one, cat_end, cat, alt_end, alt, rep, cap}
 use Rattle.followed_document.specs.Goes.{NothingGoes, StaysOf, stays_of_lets}

@@ -1,5 +1,5 @@
 -- Sets that are settled for good: no word goes on from them, and their words stay accepted.
-use Rattle.std.proofs.Common.{◌≡◌, ℕ, suc, ◌+◌, ◌<◌, List, [], ◌∷◌, ◌++◌, length, inl, inr, refl, sym, ap, subst, arith, ◌∙◌, length-append, append_assoc}
+use Rattle.std.proofs.Common.{◌≡◌, ℕ, suc, ◌+◌, List, [], ◌∷◌, ◌++◌, length, inl, inr, refl, sym, ap, subst, arith, ◌∙◌, length-append, append_assoc}
 use Rattle.std.specs.Prelude.{map, ◌&&◌}
 use Rattle.std.specs.List.{filter}
 use Rattle.std.proofs.lemmas.List.{append-nil}
@@ -16,10 +16,10 @@ use Rattle.node_arena.specs.Words.{Word}
 use Rattle.output_graph.specs.Forward.{mark_block}
 use Rattle.one_pass.specs.Places.{Leads, ReadingPlace, bytes_at, end_at}
 use Rattle.one_pass.proofs.ReadWords.{leads_then, then_leads}
-use Rattle.followed_document.specs.Settling.{AllBytes, IsFull, IsGivenIn, Settles, joined, no_more, whole}
-use Rattle.followed_document.specs.Laws.{AreLasting, AreSpent, FollowLaw, IsAcceptedAt, IsSettledSet, SettledLaw, StaysGiven, Told, WasGiven}
+use Rattle.followed_document.specs.Settling.{AllBytes, IsGivenIn, Settles, joined, no_more, whole}
+use Rattle.followed_document.specs.Laws.{AreLasting, AreSpent, IsSettledSet, SettledLaw, Told}
 use Rattle.followed_document.proofs.Choices.{bytes_then}
-use Rattle.followed_document.proofs.Following.{bytes_both, bytes_left, bytes_right, follow_law}
+use Rattle.followed_document.proofs.Following.{bytes_both, bytes_right, follow_law}
 
 module _ (A : Automaton) (X : ℕ → Type 0) (spent : AreSpent A X) where
   abbrev AllSpent : List ℕ → Type 0

@@ -1,13 +1,11 @@
 -- Where one cell is live nothing in the graph speaks of a position.
-use Rattle.std.proofs.Common.{◌≡◌, ℕ, ◌+◌, ◌<◌, ◌≤◌, Bool, true, false, List, [], ◌∷◌, ◌++◌, length, Option, Some, None, inl, inr, refl, sym, ap, subst, arith, ◌∙◌}
-use Rattle.std.specs.Prelude.{drop, if◌then◌else◌, map, nat_eq}
+use Rattle.std.proofs.Common.{◌≡◌, ℕ, ◌≤◌, Bool, true, false, List, [], ◌∷◌, ◌++◌, length, Option, Some, None, inl, inr, sym, subst, arith}
+use Rattle.std.specs.Prelude.{drop, if◌then◌else◌, nat_eq}
 use Rattle.span_core.specs.Lists.{Has}
 use Rattle.span_core.proofs.HasLaws.{Has-append_cases, Has-map_cases}
 use Rattle.node_arena.specs.Cells.{NamedLink}
 use Rattle.node_arena.specs.Words.{Word, block_of, words, words_also, words_from}
-use Rattle.output_graph.specs.Graph.{Graph, HasWord, Source, source_of, sources}
-use Rattle.set_table.specs.Tabled.{Tabled}
-use Rattle.one_pass.specs.Passes.{IsReadyAt}
+use Rattle.output_graph.specs.Graph.{HasWord, Source, source_of, sources}
 use Rattle.followed_document.specs.Steps.{RebaseLaw}
 
 lone_from : (block : Word) (from : Option ℕ) (w : Word) → Has (words_from (words []) block from) w → w ≡ []

@@ -7,7 +7,7 @@ use Rattle.marked_automaton.specs.Automaton.{Automaton}
 use Rattle.automaton_reading.specs.Reading.{set_of}
 use Rattle.numbered_lists.specs.Numbered.{set_at}
 use Rattle.node_arena.specs.Words.{Word}
-use Rattle.output_graph.specs.Graph.{Graph, HasWord, Source, sources}
+use Rattle.output_graph.specs.Graph.{Graph, Source, sources}
 use Rattle.set_table.specs.Tabled.{Tabled}
 use Rattle.one_pass.specs.Layers.{no_source, source_at}
 use Rattle.one_pass.specs.Passes.{HasRead, Progress, Reaches, pass}
@@ -15,7 +15,7 @@ use Rattle.one_pass.specs.Places.{Leads, ReadingPlace, bytes_at}
 use Rattle.followed_document.specs.Flags.{AreKept, HasFlagged, flag_at}
 use Rattle.followed_document.specs.Laws.{IsGivenNext, IsSettledSet, Told}
 use Rattle.followed_document.specs.Settling.{LeadsPast, Rule, Settles, joined}
-use Rattle.followed_document.specs.Steps.{AreTold, HasFollowed, IsLayerPast, StepLaw}
+use Rattle.followed_document.specs.Steps.{AreTold, IsLayerPast, StepLaw}
 use Rattle.followed_document.proofs.Following.{more_past, past_more}
 use Rattle.followed_document.proofs.Lasting.{lasting_ends}
 

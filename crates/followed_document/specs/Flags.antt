@@ -1,5 +1,5 @@
 -- Sources of a layer that are told by flags.
-use Rattle.std.specs.Prelude.{◌≡◌, ℕ, ◌<◌, ◌↔◌, ◌⊎◌, Bool, true, false, List, [], ◌∷◌, length, slice_index_or}
+use Rattle.std.specs.Prelude.{◌≡◌, ℕ, ◌<◌, ◌↔◌, Bool, true, false, List, [], ◌∷◌, length, slice_index_or}
 use Rattle.span_core.specs.Lists.{Has}
 use Rattle.node_arena.specs.Words.{Word}
 use Rattle.output_graph.specs.Graph.{Graph, HasWord, Source, sets_of, sources, targets}

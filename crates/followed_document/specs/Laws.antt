@@ -1,5 +1,5 @@
 -- What is given, piece by piece.
-use Rattle.std.specs.Prelude.{◌≡◌, ℕ, ◌+◌, ◌<◌, ◌↔◌, List, [], ◌∷◌, ◌++◌, length}
+use Rattle.std.specs.Prelude.{◌≡◌, ℕ, ◌+◌, ◌<◌, ◌↔◌, List, [], ◌++◌, length}
 use Rattle.marked_automaton.specs.Automaton.{Automaton, Marked}
 use Rattle.automaton_reading.specs.Reading.{set_of}
 use Rattle.node_arena.specs.Words.{Word}

@@ -2,7 +2,7 @@
 use Rattle.std.specs.Prelude.{◌≡◌, ℕ, ◌+◌, ◌<◌, ◌⊎◌, List, [], ◌∷◌, ◌++◌, length, map}
 use Rattle.span_core.specs.Lists.{Has}
 use Rattle.marked_automaton.specs.Automaton.{Automaton}
-use Rattle.automaton_reading.specs.Reading.{Reach, edges, ended, set_of}
+use Rattle.automaton_reading.specs.Reading.{Reach, edges, ended}
 use Rattle.node_arena.specs.Words.{Word}
 use Rattle.one_pass.specs.Places.{Leads, ReadingPlace, bytes_at, end_at}
 

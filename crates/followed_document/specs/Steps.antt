@@ -1,6 +1,5 @@
 -- A piece more: what the layer has behind it, and what is given.
 use Rattle.std.specs.Prelude.{◌≡◌, ℕ, ◌<◌, ◌≤◌, ◌↔◌, Bool, true, false, List, [], ◌∷◌, ◌++◌, length}
-use Rattle.span_core.specs.Lists.{Has}
 use Rattle.marked_automaton.specs.Automaton.{Automaton}
 use Rattle.automaton_reading.specs.Reading.{set_of}
 use Rattle.numbered_lists.specs.Numbered.{set_at}
@@ -12,7 +11,7 @@ use Rattle.one_pass.specs.Passes.{HasRead, IsReadyAt, Progress, Reaches, pass}
 use Rattle.one_pass.specs.Places.{bytes_at}
 use Rattle.followed_document.specs.Flags.{AreKept, HasFlagged, flag_at}
 use Rattle.followed_document.specs.Laws.{AreLasting, IsGivenNext, IsSettledSet, Told}
-use Rattle.followed_document.specs.Settling.{LeadsPast, Rule, Settles, joined}
+use Rattle.followed_document.specs.Settling.{LeadsPast, Rule, joined}
 
 -- the flags tell the sources whose sets are given
 abbrev pub AreTold : Rule → Tabled → Graph → List Bool → Type 0

@@ -1,4 +1,4 @@
-use Rattle.std.proofs.Common.{refl, arith, ◌∙◌}
+use Rattle.std.proofs.Common.{refl, arith}
 use Rattle.node_arena.specs.Rows.{rows}
 use Rattle.followed_document.proofs.Settlings.{listed_all, listing_more, listing_none}
 use Rattle.followed_document.proofs.settling.list_sources.Goals as goal

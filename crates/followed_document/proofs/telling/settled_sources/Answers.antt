@@ -1,4 +1,4 @@
-use Rattle.std.proofs.Common.{◌<◌, ◌≡◌, List, ℕ, length, subst, sym, arith}
+use Rattle.std.proofs.Common.{◌<◌, List, ℕ, length, subst, sym, arith}
 use Rattle.std.specs.Prelude.{◌↔◌, IsTrue}
 use Rattle.span_core.proofs.HasLaws.{Has-get_or}
 use Rattle.marked_automaton.specs.Reach.{IsFlagged}
