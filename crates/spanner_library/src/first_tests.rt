@@ -127,11 +127,17 @@ fn list_rows<L: Ledger>(
     numbers.resize(MOST_ROWS * width, 0).ok()?;
     loop {
         let given = rows.fill(query, document, &mut numbers, MOST_ROWS, steps);
-        for number in numbers.iter().take(given.saturating_mul(width)) {
-            found.push(*number).ok()?;
-        }
+        push_first(&numbers, given.saturating_mul(width), found)?;
         if given < MOST_ROWS {
             return Some(());
         }
     }
+}
+
+/// Appends so many of the numbers, from the first one on.
+fn push_first(numbers: &[u32], count: usize, found: &mut Vec<u32>) -> Option<()> {
+    for number in numbers.iter().take(count) {
+        found.push(*number).ok()?;
+    }
+    Some(())
 }

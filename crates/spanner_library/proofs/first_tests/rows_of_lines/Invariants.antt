@@ -1,4 +1,4 @@
 use Rattle.spanner_library.proofs.first_tests.rows_of_lines.Given as goal
 
 abbrev pub ghosts-ask_all : goal.ghosts-ask_all
-ghosts-ask_all a = record { name = a.blank.name; parts = a.blank.parts }
+ghosts-ask_all g a = record { name = a.blank.name; parts = a.blank.parts }
