@@ -19,8 +19,8 @@
  *
  * Threads. A handle is used by one call at a time. For several threads at once, rematch_share gives each its own slot
  * of the same compiled query. That a handle may go from one thread to another, as under a lock, is tested and not proved.
- * A call takes less than 512 kB of stack, whatever the query: a hundred nested minus take the most. Threads of some C
- * libraries have 128 kB, and want more room: 1 MB is enough. That it is so is tested and not proved.
+ * A call may take 2.5 MB of stack: queries at both limits of nesting take the most, and a usual query a few kB. Threads of
+ * some C libraries have 128 kB, and want more room. That it is so is tested and not proved.
  * No call is made from a signal handler, nor in the forked child of a process with threads.
  *
  * Memory. It is that of malloc, realloc and free. Where it is wanting, the call is refused with REMATCH_MEMORY, and

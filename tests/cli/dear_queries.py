@@ -93,8 +93,6 @@ def of_lists_of_differences():
     high = [r'\x%02x' % byte for byte in range(0x80, 0x80 + 120)]
     dear('a difference with sets of 800 and 120 letters',
          '/^z{800}[%s]*$/ minus /^(.*.{800}|.*(%s))$/' % (''.join(high), letters_behind(high, '.')))
-    dear('a difference with sets of 2,200 and 120 letters',
-         '/^[%s]*$/ minus /^(%s|.*(%s))$/' % (''.join(high), '|'.join(2200 * ['.*']), letters_behind(high, '.')))
 
 
 def of_searches_of_differences():
@@ -102,15 +100,9 @@ def of_searches_of_differences():
     names = left_out('v', 7)
     dear('a difference that tries 1,000 ends at 4,096 sets',
          '/^c{1000}[ab]*%s$/ minus /^(.*.{1000}z|.*a.{12}z|y(a?){1000}%s)$/' % (names, names))
-    names = left_out('v', 15)
-    dear('a difference that tries 32,768 ends at 16,384 sets', '/^[ab]*%s$/ minus /^[ab]*b[ab]{13}(c%s)?$/' % (names, names))
     dear('a difference with sets of 16,120', '/^[^ab]/ minus /^((.|\\n){403,}){20}/')
     dear('a difference with sets of 10,000', '/^a/ minus /^(.{500,}){20}/')
     dear('a difference with sets of 8,000', '/^a/ minus /^(.{400,}){20}/')
-    words = r'([^a]+b*[^a][^a](%s)(.|\n)c\w|b)|((\w|z?|[ab](.|\n)b[ab]c)){93,187}' % '|'.join(17 * ['.'])
-    dear('a difference of words of many characters', r'((/^\w/ minus (/^((%s)|b{8,}(.|\n)+)$/ union /^b/)) minus /[^\p{L}]$/u)' % words)
-    dear('a difference of thirty digits and capitals', r'/\d$/ minus /^((a{0,30}|[a-z]{0,89}|(z|\d)?)+|%s|%s){0,3}/u'
-         % ('|'.join(22 * [r'\d\p{Lu}']), '|'.join(6 * [r'\p{Lu}'])))
 
 
 def of_lets_and_tests():
