@@ -1,10 +1,11 @@
 #!/usr/bin/env python3
 """Measures how long queries take to be compiled to automata, and how much memory, where they are large.
 
-    bench/compile.py [--program PATH] [--only NAME ..] [--seconds S] [--times N]
+    bench/compile.py [--program PATH] [--only NAME ..] [--seconds S] [--times N] [--keep]
 
 PROGRAM is `check_automata`, which tells the size of the one query that it is given
-(`rt run` in its folder builds it). Python 3.8, standard library; Linux, for the memory.
+(`rt run` in its folder builds it). With --keep the table is written to bench/measured too, from which docs/make
+makes that of bench/README.md. Python 3.8, standard library; Linux, for the memory.
 """
 import argparse
 import os
@@ -12,6 +13,8 @@ import subprocess
 import sys
 import threading
 from typing import NamedTuple
+
+import measured
 
 ROOT = os.path.dirname(os.path.dirname(os.path.abspath(__file__)))
 
@@ -97,17 +100,25 @@ def main():
     parser.add_argument('--only', nargs='+', metavar='NAME')
     parser.add_argument('--seconds', type=float, default=120)
     parser.add_argument('--times', type=int, default=1)
+    parser.add_argument('--keep', action='store_true')
     given = parser.parse_args()
+    if given.keep and given.only:
+        sys.exit('--keep is for all queries')
     if not os.access(given.program, os.X_OK):
         sys.exit('check_automata is not built: %s' % given.program)
     print('load %.2f of %d processors' % (os.getloadavg()[0], os.cpu_count()))
     print('%-48s %8s %8s %8s  %s' % ('query', 'bytes', 'seconds', 'peak MB', 'told'))
+    table = []
     for name, query in QUERIES.items():
         if given.only and not any(word in name for word in given.only):
             continue
         best = min((run(given.program, query, given.seconds) for _ in range(given.times)), key=lambda one: one.seconds)
         print('%-48s %8d %8.2f %8.1f  %s' % (name, len(query), best.seconds, best.peak / 1024, best.told[:60]))
         sys.stdout.flush()
+        table.append([name, '%.2f' % best.seconds, '%.0f MB' % (best.peak / 1024), best.told[:60]])
+    if given.keep:
+        measured.keep('automata', ['Query', 'Seconds', 'Most memory', 'What comes of it'], table, what='compiling one query',
+                      how='bench/compile.py --keep', note='Processor seconds and the most memory, the least of %d runs.' % given.times)
 
 
 if __name__ == '__main__':

@@ -1,10 +1,11 @@
 #!/usr/bin/env python3
 """Measures queries of the Python package by the library in this process, beside `re` and the program.
 
-    bench/library.py --library PATH [--program PATH]
+    bench/library.py --library PATH [--program PATH] [--keep]
 
 What it takes to import the package; many rows of a large document, as one array and as a count; a column of 30,000 one-line texts.
-Each figure is the best of three, in wall seconds. Python 3.9; numpy where it is installed.
+Each figure is the best of three, in wall seconds. With --keep the table is written to bench/measured too, from which docs/make
+makes that of library/README.md. Python 3.9; numpy where it is installed.
 """
 import argparse
 import os
@@ -13,10 +14,13 @@ import subprocess
 import sys
 import time
 
+import measured
+
 HERE = os.path.dirname(os.path.abspath(__file__))
 ROOT = os.path.dirname(HERE)
 PYTHON = os.path.join(ROOT, 'clients', 'python')
 TEXTS = 30_000
+TABLE = []  # what was told, as rows of a table
 
 
 def best(call, times=3):
@@ -29,6 +33,7 @@ def best(call, times=3):
 
 
 def tell(what, seconds, rows=None):
+    TABLE.append([what, '%.3f s' % seconds])
     print('%-52s %8.3f s%s' % (what, seconds, '' if rows is None else '  %6.2f million rows a second' % (rows / seconds / 1e6)))
 
 
@@ -66,6 +71,7 @@ def main():
     parser = argparse.ArgumentParser(description='Measures queries by the library in this process.')
     parser.add_argument('--library', required=True, metavar='PATH')
     parser.add_argument('--program', metavar='PATH')
+    parser.add_argument('--keep', action='store_true')
     given = parser.parse_args()
     os.environ['REMATCH_LIBRARY'] = os.path.abspath(given.library)
     os.environ['PYTHONPATH'] = PYTHON
@@ -76,6 +82,9 @@ def main():
     tell('import and a first query', import_time(dict(os.environ)))
     rows_of_a_document(rematch)
     column(rematch)
+    if given.keep:
+        measured.keep('library', ['What', 'Wall time'], TABLE, given.program, what='queries of the Python package by the library',
+                      how='bench/library.py --keep', note='The least of three, with Python %d.%d.' % sys.version_info[:2])
 
 
 if __name__ == '__main__':

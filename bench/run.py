@@ -2,7 +2,7 @@
 """Measures rematch beside other tools on documents that documents.py makes.
 
     bench/run.py [--program PATH] [--log LINES] [--sparse LINES] [--text BYTES] [--dna BYTES]
-                 [--seed S] [--times N] [--seconds S] [--only KIND ..]
+                 [--seed S] [--times N] [--seconds S] [--only KIND ..] [--keep]
 
 For each document and each tool: the seconds of processor time (the least of N runs), the rows, the
 share of all rows that they are, and the most memory. All rows are those of rematch, or else those of
@@ -12,6 +12,8 @@ Perl. A tool that is not installed is left out with a line, and so is one that d
     perl        all rows, by a pattern that always fails after noting what it captured, without order
     pcre2grep   the matches that it gives: leftmost, greedy, not overlapping
     rg          likewise
+
+With --keep the table is written to bench/measured too, from which docs/make makes that of bench/README.md.
 
 Python 3.8, standard library; Linux, for the memory.
 """
@@ -25,6 +27,7 @@ import threading
 from typing import NamedTuple
 
 import documents
+import measured
 
 ROOT = os.path.dirname(os.path.dirname(os.path.abspath(__file__)))
 
@@ -121,6 +124,7 @@ def show(task, given, folder):
     print('    %-10s %9s %10s %8s %8s' % ('tool', 'seconds', 'rows', 'share', 'peak MB'))
     total = None
     exhaustive = None
+    table = []
     for tool, command in commands(task, given.program, document):
         if not shutil.which(command[0]):
             print('    %-10s not installed, left out' % tool)
@@ -133,12 +137,14 @@ def show(task, given, folder):
         rows = lines_of(path)
         total = rows if total is None else total
         share = '%.1f%%' % (100 * rows / total) if total else '-'
+        table.append(['' if table else '%s, %s bytes' % (task.kind, format(length, ',')), tool, '%.3f' % best.seconds, format(rows, ','), share])
         print('    %-10s %9.3f %10d %8s %8.1f' % (tool, best.seconds, rows, share, best.peak / 1024))
         if tool in ('rematch', 'perl'):
             if exhaustive and not same_rows(exhaustive, path):
                 print('    %-10s has other rows than rematch' % tool)
             exhaustive = path
         sys.stdout.flush()
+    return table
 
 
 def main():
@@ -150,16 +156,23 @@ def main():
     parser.add_argument('--times', type=int, default=3)
     parser.add_argument('--seconds', type=float, default=60)
     parser.add_argument('--only', nargs='+', choices=[task.kind for task in TASKS])
+    parser.add_argument('--keep', action='store_true')
     given = parser.parse_args()
     given.program = os.path.abspath(given.program)
     given.sizes = {task.kind: getattr(given, task.kind) for task in TASKS}
     if not os.access(given.program, os.X_OK):
         print('rematch is not built: %s' % given.program)
     print('load %.2f of %d processors' % (os.getloadavg()[0], os.cpu_count()))
+    if given.keep and given.only:
+        sys.exit('--keep is for all documents')
+    table = []
     with tempfile.TemporaryDirectory() as folder:
         for task in TASKS:
             if not given.only or task.kind in given.only:
-                show(task, given, folder)
+                table += show(task, given, folder)
+    if given.keep:
+        measured.keep('first_comparison', ['Document', 'Tool', 'Seconds', 'Rows', 'Share of all rows'], table, given.program,
+                      what='a first comparison', how='bench/run.py ' + ' '.join(sys.argv[1:]), note='The least of %d runs.' % given.times)
 
 
 if __name__ == '__main__':

@@ -19,8 +19,8 @@ seconds of processor time, the median of the N runs, and the least of them, with
 measure.c and others.cpp are built on the way (cc, g++; libpcre2-dev, libhyperscan-dev, libre2-dev of Debian);
 where others.cpp cannot be built, its three are left out. --growth measures rematch on A and C at 1, 2, 4 and 8
 times the document, --instructions counts what rematch does for a byte and for a row by valgrind's callgrind,
---texts measures queries with a text that is searched for. With --keep the tables of all workloads, or those of their
-instructions, are written to bench/measured too, from which docs/make makes the tables of bench/README.md. Python 3.8, standard library; Linux, a C compiler.
+--texts measures queries with a text that is searched for. With --keep the tables are written to bench/measured too, from
+which docs/make makes those of bench/README.md. Python 3.8, standard library; Linux, a C compiler.
 """
 import argparse
 import hashlib
@@ -211,8 +211,18 @@ def keep(found, given):
                   what='seven workloads by other tools', **facts)
 
 
+def keep_texts(found, given):
+    """Writes the table of queries with a text."""
+    rows = [['`%s`, %s' % (work.query, work.what)] + [kept.get(key, '-') for key in ['rematch', 'rg', 'pcre2', 'rows']]
+            for work, kept in zip(TEXTS, found)]
+    measured.keep('texts', ['Query', 'rematch', '`rg`', '`pcre2`, all rows', 'Rows'], rows, given.program, what='queries with a text',
+                  how='bench/workloads.py --texts --keep', note='The least processor seconds of %d rounds in turn.' % given.times)
+
+
 def show_growth(given):
-    print('\n| Document | Times | Bytes | Rows | Seconds | ns a byte | ns a row | MB |\n|---|---|---|---|---|---|---|---|')
+    columns = ['Document', 'Times', 'Bytes', 'Rows', 'Seconds', 'ns a byte', 'ns a row', 'MB']
+    print('\n| %s |\n|---|---|---|---|---|---|---|---|' % ' | '.join(columns))
+    table = []
     for work in (WORKLOADS[0], WORKLOADS[2]):
         for times in (1, 2, 4, 8):
             document = os.path.join(given.folder, 'growth')
@@ -221,9 +231,13 @@ def show_growth(given):
             command = [given.program, '-e', work.query, document]
             seconds, _, peak = figure(in_turn({'rematch': command}, given)['rematch'])
             rows = output('rematch', command)[1]
-            print('| %s | %d | %d | %d | %.3f | %.0f | %.0f | %.0f |' % (
-                work.name, times, length, rows, seconds, seconds / length * 1e9, seconds / rows * 1e9, peak))
+            table.append([work.name, '%d' % times, format(length, ','), format(rows, ','), '%.3f' % seconds,
+                          '%.0f' % (seconds / length * 1e9), '%.0f' % (seconds / rows * 1e9), '%.0f' % peak])
+            print('| %s |' % ' | '.join(table[-1]))
             sys.stdout.flush()
+    if given.keep:
+        measured.keep('growth', columns, table, given.program, what='growth', how='bench/workloads.py --growth --keep',
+                      note='Median processor seconds of %d rounds.' % given.times)
 
 
 def instructions(command):
@@ -266,8 +280,8 @@ def main():
     parser.add_argument('--texts', action='store_true')
     given = parser.parse_args()
     given.program = os.path.abspath(given.program)
-    if given.keep and (given.only != 'ABCDEFGU' or given.growth or given.texts):
-        parser.error('--keep is for all workloads, or for their instructions')
+    if given.keep and given.only != 'ABCDEFGU':
+        parser.error('--keep is for all workloads')
     print('load %.2f of %d processors' % (os.getloadavg()[0], os.cpu_count()))
     with tempfile.TemporaryDirectory() as given.folder:
         given.others = build(given.folder)
@@ -278,7 +292,7 @@ def main():
         else:
             found = [show(work, given) for work in (TEXTS if given.texts else WORKLOADS) if given.texts or work.name in given.only]
             if given.keep:
-                keep(found, given)
+                (keep_texts if given.texts else keep)(found, given)
 
 
 if __name__ == '__main__':
