@@ -1,12 +1,13 @@
 """What is accepted and is yet seldom meant. It is told beside an answer, and never in its place."""
 from __future__ import annotations
 
-from typing import Callable, List, NamedTuple, Optional, Sequence, Set, Union
+from typing import Callable, Dict, List, NamedTuple, Optional, Sequence, Set, Union
 
 from .reader import read
 from .sets import WORD
-from .tree import (Atom, Capture, Choice, Concatenation, Formula, Group, Join, Minus, Name, One, Query, Repeat, captures_of, expressions_of, nodes_of,
-                   ones_of)
+from .tree import (Atom, Capture, Choice, Concatenation, Expression, Formula, Group, Join, Minus, Name, One, Query, Repeat, captures_of,
+                   expressions_of, nodes_of, ones_of)
+from .variables import Variables, variables_of
 
 __all__ = ['Advice', 'advise', 'is_of_ends', 'is_of_rows']
 
@@ -40,6 +41,7 @@ def advise(text: Union[str, bytes]) -> List[Advice]:
     has_ends = any(atom.is_first or atom.is_last for atom in query.atoms)
     rules = [rule for rule in _RULES if (is_alone or rule not in _OF_ONE_ATOM) and not (has_ends and rule in _OF_THE_ENDS)]
     found += _lets(query, {one.name for one in expressions if isinstance(one, Name)})
+    found += _joins_apart(query)
     for atom in query.atoms:
         for rule in rules:
             told = rule(atom)
@@ -77,6 +79,32 @@ def _lets(query: Query, used: Set[bytes]) -> List[Advice]:
             found.append(Advice(within.inner.start, f'in a formula {name} is these letters: a let names a query, which is joined with another, and not a '
                                                     'part of a formula'))
     return found
+
+
+def _joins_apart(query: Query) -> List[Advice]:
+    """Of each join: the first part that has variables and is tied by none to the parts before it, not even through another part."""
+    found: List[Advice] = []
+    of_lets: Dict[bytes, Variables] = {}
+    for let in query.lets:
+        of_lets[let.name] = variables_of(let.expression, of_lets)
+    for whole in (*(let.expression for let in query.lets), query.body):
+        for join in expressions_of(whole):
+            named = [(part, set(variables_of(part, of_lets).all)) for part in (join.parts if isinstance(join, Join) else ())]
+            tied: Set[bytes] = set()
+            for _, names in named:  # each turn ties at least one part more, or none
+                tied = tied or names
+                tied = tied.union(*(others for _, others in named if others & tied))
+            apart = next(((part, names) for part, names in named if names - tied), None)
+            if apart is not None:
+                part, names = apart
+                found.append(Advice(_start(part), f'{min(names).decode()} is joined with {min(tied).decode()}, and they share no variable: there is a '
+                                    'row for each pair, and a cell for each two that are open at one place'))
+    return found
+
+
+def _start(expression: Expression) -> int:
+    """Where the first formula or name of an expression is."""
+    return next(one.start for one in expressions_of(expression) if isinstance(one, (Atom, Name)))
 
 
 def _plain_words(atom: Atom) -> Optional[Advice]:

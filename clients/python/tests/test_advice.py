@@ -20,6 +20,8 @@ class Advice(unittest.TestCase):
                 (r'/ !x{[^ ]+} /', 5, 'line feed'),
                 ('let w = /!y{a}/; / !w{w} /', 22, 'these letters'), ('let w = /!y{a}/; / !x{b} /', 4, 'nowhere'),
                 ('/^!x{a}|!x{b}/', 1, '/^a/ union'), ('/a|b(c|d)$/', 9, 'union /b$/'), ('/^(a)|(b)$/', 1, 'each arm'),
+                ('/!x{a}b/ join /!y{c}d/', 14, 'share no variable'),
+                ('let w = /!x{a}b/; w join (/!y{c}d/ union /!y{e}f/)', 26, 'share no variable'),
                 (r'/"!q{[^"]*}"/', 1, 'quotes'), (r"/a'!q{[^']+}'/", 2, 'quotes')):
             rematch.Query(query)
             found = [advice for advice in rematch.advise(query) if part in advice.message]
@@ -30,7 +32,7 @@ class Advice(unittest.TestCase):
 
     def test_silent(self):
         for query in (r'/from !address{[\d.]+} port/', '/^!x{a*}$/', '/^!x{[^\\n]*}\\n/', 'project none (/!x{a}/)', '/!x{a}(b+)/', '/a!x{b?}/',
-                      '/ !x{a} /', 'let w = /!x{a}/; w', '/^(!x{a}|!x{b})/', '/^!x{a|b}$/', '/^!x{[|]}c/', '/!x{a}|!x{b}/'):
+                      '/ !x{a} /', 'let w = /!x{a}/; w', '/!x{a}b/ join /!x{a}!y{b}/', '/!x{a}!y{b}/ join /!y{b}!z{c}/ join /!z{c}d/', '/!x{a}b/ join /c/', '/!x{a}b/ join /!y{b}c/ join /!x{a}!y{b}/', '/^(!x{a}|!x{b})/', '/^!x{a|b}$/', '/^!x{[|]}c/', '/!x{a}|!x{b}/'):
             self.assertEqual(self.offsets(query), [], query)
 
     def test_what_other_atoms_say(self):
