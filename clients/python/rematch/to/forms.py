@@ -1,14 +1,16 @@
 """The forms of ``rematch-to`` that take one document after another: what each makes of a document, and what is written of it."""
 from __future__ import annotations
 
+import os
 import sys
+from array import array
 from collections import Counter
 from itertools import islice
 from typing import TYPE_CHECKING, Any, Dict, Iterable, Iterator, List, NoReturn, Optional, Sequence, Tuple, Type
 
 from ..match import Row
 from .packed import Given
-from .tables import Context, Layout, Table, concordance, json_lines, sorted_contexts
+from .tables import Context, Layout, Table, concordance, first_place, json_lines, line_numbers, shown_text, sorted_contexts
 from .jobs import Part
 from .lines import count_lines, shown_lines
 
@@ -106,6 +108,39 @@ class _Json(Form):
 
     def of(self, found: Given) -> Iterator[str]:
         return self.limited(json_lines(self.query, found, self.command.rows(found), is_texts_alone=bool(self.given.texts)))
+
+
+class _Parquet(Form):
+    """A file of Parquet, which pyarrow writes once all rows are there."""
+    is_text = False
+
+    def __init__(self, command: 'Command') -> None:
+        from importlib.util import find_spec
+        from ..arrow import Columns
+        super().__init__(command)
+        if find_spec('pyarrow') is None:
+            refuse('parquet needs the package pyarrow: pip install pyarrow; csv needs none')
+        if self.given.out is None and sys.stdout.isatty():
+            refuse('parquet is no text for a terminal: -o NAME writes it to a file')
+        try:
+            self.columns = Columns(self.query.variables, kind='q', has_lines=True)
+        except ValueError as reason:
+            refuse(str(reason))
+
+    def of(self, found: Given) -> None:
+        data: bytes = found.data  # type: ignore[assignment]
+        number = line_numbers(data)
+        places, lines = array('q'), array('q')
+        for row in self.command.rows(found):
+            first = first_place(row)
+            places.extend(row)
+            lines.append(-1 if first is None else number(first))
+        name = shown_text(os.fsencode(found.name))
+        self.columns.add(name, places, len(lines), lambda start, end: shown_text(data[start:end]), lines)
+
+    def end(self) -> Iterable[str]:
+        from ..arrow import parquet_of
+        yield parquet_of(self.columns).decode('utf-8', 'surrogateescape')  # of which the output makes the same bytes
 
 
 class Drawn:
@@ -284,7 +319,7 @@ class _Freq(Form):
         return ()
 
     def end(self) -> Iterable[str]:
-        from .tables import cell_of, shown_text
+        from .tables import cell_of
         yield '' if self.given.no_head else ','.join(['count', *self.names]) + '\n'
         for texts, count in islice(sorted(self.counts.items(), key=lambda item: (-item[1], item[0])), self.given.most):
             yield ','.join([str(count), *(cell_of(shown_text(text), ',') for text in texts)]) + '\n'
@@ -361,6 +396,5 @@ class _Fasta(_Places):
         return fasta_lines(self.sites(found), self.query.variables)
 
 
-DOCUMENT_FORMS: Dict[str, Type[Form]] = {'csv': _Csv, 'tsv': _Tsv, 'json': _Json, 'kwic': _Kwic, 'lines': _Lines, 'count': _Count, 'freq': _Freq,
-                                         'bed': _Bed,
-                                         'gff': _Gff, 'fasta': _Fasta}
+DOCUMENT_FORMS: Dict[str, Type[Form]] = {'csv': _Csv, 'tsv': _Tsv, 'json': _Json, 'parquet': _Parquet, 'kwic': _Kwic, 'lines': _Lines,
+                                         'count': _Count, 'freq': _Freq, 'bed': _Bed, 'gff': _Gff, 'fasta': _Fasta}

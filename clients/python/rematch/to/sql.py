@@ -269,7 +269,7 @@ def _sources(given: argparse.Namespace) -> List[Source]:
 
 def _words_of(source: Source, given: argparse.Namespace) -> Words:
     """The words that a query is read with, as for a table."""
-    words = ['csv', '-q' if source.is_file else '-e', source.text]
+    words = ['csv', ('-q=' if source.is_file else '-e=') + source.text]  # in one word, since a text may begin with a -
     words += ['--quiet'] * given.quiet + ['--silent'] * given.silent + ['--filter'] * given.filter
     words += [] if given.max_table is None else ['--max-table', str(given.max_table)]
     return read_words(words)

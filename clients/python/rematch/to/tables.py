@@ -16,7 +16,7 @@ from ..visible import BIDI
 from .packed import Given
 from .sentences import sentence_round
 
-__all__ = ['Characters', 'Context', 'Layout', 'Table', 'concordance', 'extent_of', 'json_lines', 'line_numbers', 'sorted_contexts',
+__all__ = ['Characters', 'Context', 'Layout', 'Table', 'concordance', 'extent_of', 'first_place', 'json_lines', 'line_numbers', 'sorted_contexts',
            'write_annotations']
 
 
@@ -40,7 +40,8 @@ def shown_text(part: bytes) -> str:
     return part.decode('utf-8', 'backslashreplace')
 
 
-def _first(row: Row) -> Optional[int]:
+def first_place(row: Row) -> Optional[int]:
+    """Where the first span of a row begins; None for a row without spans."""
     return min((start for start in row[::2] if start >= 0), default=None)
 
 
@@ -139,7 +140,7 @@ class Table:
         number = line_numbers(data)  # type: ignore[arg-type]
         name = cell_of(given.name, delimiter)
         for row in rows:
-            first = _first(row)
+            first = first_place(row)
             cells = [name, '' if first is None else str(number(first) + first_line - 1)]
             places = iter(row)
             for start, end in zip(places, places):
@@ -163,7 +164,7 @@ class Table:
             shown = cell_of(given.name, delimiter)
             return lambda row: shown
         if name == 'line':
-            return lambda row: '' if _first(row) is None else str(number(_first(row)))  # type: ignore[arg-type]
+            return lambda row: '' if first_place(row) is None else str(number(first_place(row)))  # type: ignore[arg-type]
         if name in self._query.variables:
             at = 2 * self._query.variables.index(name)
             return lambda row: '' if row[at] < 0 else cell_of(shown_text(data[row[at]:row[at + 1]]), delimiter)
@@ -195,7 +196,7 @@ def extent_of(row: Row) -> Optional[Tuple[int, int]]:
     >>> extent_of((-1, -1, 3, 4, 1, 2)), extent_of(())
     ((1, 4), None)
     """
-    first = _first(row)
+    first = first_place(row)
     return None if first is None else (first, max(row[1::2]))
 
 
@@ -214,7 +215,7 @@ def json_lines(query: Query, given: Given, rows: Iterable[Row], *, is_texts_alon
     data = given.data
     number = line_numbers(data)  # type: ignore[arg-type]
     for row in rows:
-        first = _first(row)
+        first = first_place(row)
         cells: Dict[str, Any] = {'document': shown_text(os.fsencode(given.name)), 'line': None if first is None else number(first)}
         places = iter(row)
         for name, start, end in zip(query.variables, places, places):
