@@ -33,6 +33,7 @@ class Form:
     is_text = True
     is_sequence = False  # whether records of sequences are searched
     takes_pieces = True  # whether a piece of a document can be done by itself
+    reads_once = False  # whether of a document no more is read than its rows, in their order
 
     def __init__(self, command: 'Command') -> None:
         self.command = command
@@ -83,6 +84,7 @@ class _Csv(Form):
         super().__init__(command)
         if self.given.var is not None and self.given.context is None and not self.given.sentence:
             refuse('--var is for --context and --sentence here: give one of them too')
+        self.reads_once = self.given.context is None and not self.given.sentence and not self.given.characters
         try:
             self.table = Table(self.query, layout_of(self.given, self.delimiter))
         except ValueError as reason:
@@ -100,6 +102,8 @@ class _Tsv(_Csv):
 
 
 class _Json(Form):
+    reads_once = True
+
     def __init__(self, command: 'Command') -> None:
         super().__init__(command)
         twice = next((name for name in ('document', 'line') if name in self.query.variables), None)
@@ -221,7 +225,7 @@ class _Lines(Form):
 
     def of(self, found: Given) -> Iterator[str]:
         is_begun = False
-        data: bytes = found.data  # type: ignore[assignment]
+        data: bytes = found.data
         name = f'{found.name}:' if len(self.command.names) > 1 else ''
         around, is_coloured = self.given.around or 0, self.command.is_coloured
         left_around = around  # lines after the last one that is asked for
@@ -250,7 +254,7 @@ class _Count(Form):
 
     def __init__(self, command: 'Command') -> None:
         super().__init__(command)
-        self.takes_pieces = not self.given.lines
+        self.takes_pieces = self.reads_once = not self.given.lines
         self.total = 0
         self.of_document: Optional[Tuple[str, int]] = None  # of which pieces may come
 
@@ -285,6 +289,7 @@ class _Count(Form):
 
 class _Freq(Form):
     is_text = False
+    reads_once = True
 
     def __init__(self, command: 'Command') -> None:
         super().__init__(command)
@@ -300,7 +305,7 @@ class _Freq(Form):
         self.takes_pieces = bool(self.given.rows) or set(self.names) == set(self.query.variables)  # each row has places of its own then
 
     def of(self, found: Given) -> 'Counter[Tuple[bytes, ...]]':
-        data: bytes = found.data  # type: ignore[assignment]
+        data: bytes = found.data
         rows = self.command.rows(found)
         return Counter(tuple([data[row[k]:row[k + 1]] if row[k] >= 0 else b'' for k in self.at])
                        for row in (rows if self.takes_pieces else self.places(rows)))
@@ -339,7 +344,7 @@ class _Places(Form):
     def sites(self, found: Given) -> Iterator['Site']:
         """The sites of a document, by record and place where that is asked for."""
         from .sequences import in_order, once, sites
-        data: bytes = found.data  # type: ignore[assignment]
+        data: bytes = found.data
         self.tell_letters(found.name, data)
         every = sites(self.query, data, both=not self.given.forward, left_out=self.left_out(found))
         if self.given.strand_once:
