@@ -10,7 +10,7 @@ from typing import TYPE_CHECKING, Any, Dict, Iterable, Iterator, List, NoReturn,
 
 from ..match import Row
 from .packed import Given
-from .tables import Context, Layout, Table, concordance, first_place, json_lines, line_numbers, shown_text, sorted_contexts
+from .tables import Context, Layout, Table, concordance, first_place, json_lines, shown_text, sorted_contexts
 from .jobs import Part
 from .lines import count_lines, shown_lines
 
@@ -132,8 +132,7 @@ class _Parquet(Form):
             refuse(str(reason))
 
     def of(self, found: Given) -> None:
-        data: bytes = found.data  # type: ignore[assignment]
-        number = line_numbers(data)
+        data, number = found.data, found.numbers()
         places, lines = array('q'), array('q')
         for row in self.command.rows(found):
             first = first_place(row)
