@@ -215,13 +215,16 @@ end_reading(void *at)
 static rematch_options
 options_of(FunctionCallInfo fcinfo, int max_table)
 {
-	int64		most = PG_ARGISNULL(max_table) ? 8000000 : PG_GETARG_INT64(max_table);
+	rematch_options options = REMATCH_OPTIONS;
+	int64		most = PG_ARGISNULL(max_table) ? (int64) options.max_table : PG_GETARG_INT64(max_table);
 
 	if (most < 1 || most > MOST_TABLE)
 		ereport(ERROR,
 				(errcode(ERRCODE_INVALID_PARAMETER_VALUE),
 				 errmsg("rematch: max_table is a number from 1 to %d", MOST_TABLE)));
-	return (rematch_options) {(uint64_t) most, !PG_ARGISNULL(max_table + 1) && PG_GETARG_BOOL(max_table + 1)};
+	options.max_table = (uint64_t) most;
+	options.filter = !PG_ARGISNULL(max_table + 1) && PG_GETARG_BOOL(max_table + 1);
+	return options;
 }
 
 /* Begins to read a document, in a context that lives as long as the call of the function. */
@@ -563,6 +566,8 @@ PG_FUNCTION_INFO_V1(rematch_any_in_text);
 Datum
 rematch_any_in_text(PG_FUNCTION_ARGS)
 {
+	if (PG_ARGISNULL(QUERY) || PG_ARGISNULL(DOCUMENT))
+		PG_RETURN_NULL();
 	PG_RETURN_BOOL(has_row(fcinfo, true));
 }
 
@@ -570,6 +575,8 @@ PG_FUNCTION_INFO_V1(rematch_any_in_bytes);
 Datum
 rematch_any_in_bytes(PG_FUNCTION_ARGS)
 {
+	if (PG_ARGISNULL(QUERY) || PG_ARGISNULL(DOCUMENT))
+		PG_RETURN_NULL();
 	PG_RETURN_BOOL(has_row(fcinfo, false));
 }
 

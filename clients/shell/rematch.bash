@@ -55,7 +55,7 @@ _rematch_to() {
     esac
     case $word in
         -*) _rematch_open "$_rematch_to_options" ;;
-        *) if [[ $COMP_CWORD == 1 ]]; then _rematch_words 'csv tsv json kwic lines any freq bed gff fasta ann html count follow check why diff sql'; else _rematch_files; fi ;;
+        *) if [[ $COMP_CWORD == 1 ]]; then _rematch_words 'csv tsv json parquet kwic lines any freq bed gff fasta ann html count follow check why diff sql'; else _rematch_files; fi ;;
     esac
 }
 

@@ -12,7 +12,7 @@ complete -c rematch -l explain -d 'what the query is'
 complete -c rematch -l trial -x -d 'a made document of so many lines'
 complete -c rematch -l serve -d 'answer requests on standard input'
 
-set -l forms csv tsv json kwic lines any freq bed gff fasta ann html count follow check why diff sql
+set -l forms csv tsv json parquet kwic lines any freq bed gff fasta ann html count follow check why diff sql
 complete -c rematch-to -n "not __fish_seen_subcommand_from $forms" -f -a "$forms"
 complete -c rematch-to -n 'not __fish_contains_opt -s e -s q' -s e -x -d 'the query'
 complete -c rematch-to -n 'not __fish_contains_opt -s e -s q' -s q -r -F -d 'a file that holds the query'

@@ -21,7 +21,6 @@ enum {
     FIRST_ROWS = 10,      /* that are read at once, then four times as many */
     MOST_ROWS = 256,
     MOST_NUMBERS = 2048,  /* of the rows that are read at once; 32 rows of 32 variables */
-    USUAL_TABLE = 8000000,
     MOST_TABLE = 100000000
 };
 
@@ -192,7 +191,7 @@ static struct fault read_options(struct bytes text, rematch_options *options) {
     return none;
 }
 
-static const rematch_options usual_options = {USUAL_TABLE, false};
+static const rematch_options usual_options = REMATCH_OPTIONS;
 
 /* ---- texts ---- */
 

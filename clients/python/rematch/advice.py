@@ -38,8 +38,7 @@ def advise(text: Union[str, bytes]) -> List[Advice]:
     found = [] if any(True for atom in query.atoms for _ in captures_of(atom.formula)) else [Advice(0, _NO_CAPTURE)]
     # What another atom says of a capture's surroundings is not looked at, so nothing is said of them then.
     is_alone = not any(isinstance(one, (Join, Minus)) for one in expressions)
-    has_ends = any(atom.is_first or atom.is_last for atom in query.atoms)
-    rules = [rule for rule in _RULES if (is_alone or rule not in _OF_ONE_ATOM) and not (has_ends and rule in _OF_THE_ENDS)]
+    rules = [rule for rule in _RULES if is_alone or rule not in _OF_ONE_ATOM]
     found += _lets(query, {one.name for one in expressions if isinstance(one, Name)})
     found += _joins_apart(query)
     for atom in query.atoms:
@@ -58,7 +57,7 @@ def is_of_ends(advice: Advice) -> bool:
 def is_of_rows(advice: Advice) -> bool:
     """Whether it speaks of how many rows there are, and not of whether there is one.
 
-    >>> [is_of_rows(advice) for advice in advise(r'/!x{\\w+}[^\\w]/')]
+    >>> [is_of_rows(advice) for advice in advise(r'/!x{\\w+}[^ ]+ /')]
     [True, False]
     """
     return advice.message == _NO_CAPTURE or is_of_ends(advice)
@@ -183,34 +182,6 @@ def _open_end(atom: Atom) -> Optional[Advice]:
     return Advice(edge.part.start, 'a repeat is last in the formula with nothing after it, so each earlier end is a row too: say what is after it')
 
 
-def _parts(atom: Atom) -> Sequence[Formula]:
-    """The parts of a formula that has no arms."""
-    return atom.formula.parts if isinstance(atom.formula, Concatenation) else ()
-
-
-def _first_line(atom: Atom) -> Optional[Advice]:
-    parts = _parts(atom)
-    if parts and isinstance(parts[0], One) and parts[0].number == 10:
-        return Advice(parts[0].start, r'\n is first, and the first line of a document has none before it: write ^ in its place, and m after the closing slash')
-    return None
-
-
-def _is_negated_class(part: Formula) -> bool:
-    return isinstance(part, One) and part.is_negated
-
-
-def _edges(atom: Atom) -> Optional[Advice]:
-    parts, at = _parts(atom), None
-    if len(parts) > 1 and _is_negated_class(parts[0]) and isinstance(parts[1], Capture):
-        at = parts[0]
-    elif len(parts) > 1 and _is_negated_class(parts[-1]) and isinstance(parts[-2], Capture):
-        at = parts[-1]
-    if at is None:
-        return None
-    return Advice(at.start, 'the formula needs a byte beside the capture, so nothing is found at the very start or end of the document: add a union with ^ or '
-                            r'$ in its place, or write \b there')
-
-
 _BETWEEN_FIELDS = frozenset(b' ,;:=&\t|')  # a class that leaves out ends of sentences is of texts
 _OF_SENTENCES = frozenset(b'.!?')
 
@@ -257,6 +228,5 @@ def _anchored_arms(atom: Atom) -> Optional[Advice]:
 
 
 _RULES: Sequence[Callable[[Atom], Optional[Advice]]] = (
-    _plain_words, _round_capture, _named_class, _anchored_arms, _open_start, _open_end, _first_line, _edges, _line_feeds, _quotes)
-_OF_ONE_ATOM = (_open_start, _open_end, _edges, _quotes)
-_OF_THE_ENDS = (_first_line, _edges)
+    _plain_words, _round_capture, _named_class, _anchored_arms, _open_start, _open_end, _line_feeds, _quotes)
+_OF_ONE_ATOM = (_open_start, _open_end, _quotes)

@@ -101,11 +101,11 @@ def cuts(path: Path, size: int) -> Iterator[Piece]:
                 return
 
 
-def lines_back(file: IO[bytes], at: int, lines: int) -> int:
-    """The start of the line that is so many lines before that of a place; of a place at a line's start, one line more."""
-    wanted, end = lines + 1, max(0, at - 1)
-    while end:
-        start = max(0, end - _BLOCK)
+def lines_back(file: IO[bytes], at: int, lines: int, least: int = 0) -> int:
+    """The start of the line that is so many lines before that of a place; of a place at a line's start, one line more. It is not before ``least``."""
+    wanted, end = lines + 1, max(least, at - 1)
+    while end > least:
+        start = max(least, end - _BLOCK)
         file.seek(start)
         block = file.read(end - start)
         place = len(block)
@@ -117,7 +117,7 @@ def lines_back(file: IO[bytes], at: int, lines: int) -> int:
         if not wanted:
             return start + place + 1
         end = start
-    return 0
+    return least
 
 
 def _lines_on(file: IO[bytes], at: int, lines: int) -> int:
@@ -206,6 +206,19 @@ def rows_in_pieces(query: Query, path: Path, size: Optional[int] = None, lines: 
     reached = reach(query) if lines is None else lines
     for piece in cuts(path, _USUAL if size is None else size):
         yield from rows_of_piece(query, path, piece.start, piece.end, reached)
+
+
+def rows_of_stream(query: Query, stream: Any, lines: int, size: Optional[int] = None) -> Iterator[Row]:
+    """The rows of what is read once, one piece after another, as of `Held`; what no later row needs is let go."""
+    start = first = 0
+    while True:
+        end = stream.line_end(start + (_USUAL if size is None else size))
+        last = _lines_on(stream, end, lines)
+        yield from _owned(query, stream[first:last], first, Piece(start, end), last == end)
+        if last == end:
+            return
+        start, first = end, lines_back(stream, end, lines, first)
+        stream.forget(first)
 
 
 # -- Lines, and the two commands

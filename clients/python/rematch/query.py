@@ -422,9 +422,7 @@ class Query(Variables):
         >>> Query('/(!x{a})?!y{b}/').columns(b'ab')
         {'x': (array('q', [0, -1]), array('q', [1, -1])), 'y': (array('q', [1, 1]), array('q', [2, 2]))}
         """
-        flat = array('q')
-        for _, numbers in self._many_numbers(open_document(document), 'start'):
-            flat.extend(numbers)
+        flat, _ = self._flat_places(open_document(document), kind='q')
         step = 2 * len(self.variables)
         return {name: (flat[at::step], flat[at + 1::step]) for name, at in self._index.items()}
 
@@ -446,11 +444,16 @@ class Query(Variables):
         if self._inside is not None and self._is_within(after) and opened.places is None:
             rows, numbers = self._inside.open(opened.data, after).all()
             return numbers_view(rows, width, numbers)
-        flat, rows = array('i'), 0
-        for some, places in self._many_numbers(opened, after):
+        flat, rows = self._flat_places(opened, after)
+        return numbers_view(rows, width, flat)
+
+    def _flat_places(self, document: Document, after: str = 'start', kind: str = 'i') -> 'Tuple[array[int], int]':
+        """The places of all rows, one after another, as numbers of that kind, and how many rows there are."""
+        flat, rows = array(kind), 0
+        for some, places in self._many_numbers(document, after):
             rows += some
             flat.extend(places)
-        return numbers_view(rows, width, flat)
+        return flat, rows
 
     def _many_numbers(self, document: Document, after: str) -> Iterator[Tuple[int, List[int]]]:
         """How many rows there are next, and their places, some at a time, as the document counts."""
@@ -482,6 +485,21 @@ class Query(Variables):
             table[name + '_start'], table[name + '_end'] = starts, ends
             table[name] = [None if start < 0 else opened.text(start, end) for start, end in zip(starts, ends)]
         return table
+
+    def arrow(self, documents: Any, *, encoding: Optional[str] = None) -> Any:
+        """The rows of documents as a table of ``pyarrow``, which must be installed; else `ImportError`.
+
+        ``documents`` is one document, several, or a mapping of names to documents. The table has the columns ``document``, which is
+        a name, a path, or of a text how many are before it, and of each variable x ``x_start``, ``x_end`` and ``x``. Places are
+        numbers of 32 bits, which are not copied. Documents and texts are dictionaries. An absent variable is null. Of a ``str``, and
+        with ``encoding``, texts are strings, else binary. ``polars.from_arrow`` takes the table.
+
+        >>> Query('/(!x{a})?!y{b}/').arrow(['ab', 'b']).to_pydict()
+        {'document': ['0', '0', '1'], 'x_start': [0, None, None], 'x_end': [1, None, None], 'x': ['a', None, None],
+         'y_start': [1, 1, 0], 'y_end': [2, 2, 1], 'y': ['b', 'b', 'b']}
+        """
+        from .arrow import table_of_documents
+        return table_of_documents(self, documents, encoding)
 
 
 def _asked(after: str, limit: Optional[int]) -> List[str]:

@@ -16,7 +16,6 @@ class Advice(unittest.TestCase):
         for query, offset, part in (
                 (r'/[^\w]ab[^\w]/', 0, 'no capture'), (r'/\<!x{a}b\>/', 1, 'plain signs'), (r'/a!user(\w+) b/', 2, '!user{..}'), ('/!x{[:digit:]}/', 4, 'set of these letters'),
                 (r'/!x{\w+} /', 4, 'is first in the formula'), (r'/ !x{\w+}/', 5, 'is last in the formula'), (r'/ (!x{(a|b*)})/', 9, 'is last in the formula'),
-                (r'/\n!x{a}/', 1, 'first line'), (r'/[^\w]!x{a}/', 1, 'very start or end'), (r'/!x{a}[^\w]/', 6, 'very start or end'),
                 (r'/ !x{[^ ]+} /', 5, 'line feed'),
                 ('let w = /!y{a}/; / !w{w} /', 22, 'these letters'), ('let w = /!y{a}/; / !x{b} /', 4, 'nowhere'),
                 ('/^!x{a}|!x{b}/', 1, '/^a/ union'), ('/a|b(c|d)$/', 9, 'union /b$/'), ('/^(a)|(b)$/', 1, 'each arm'),
@@ -32,7 +31,9 @@ class Advice(unittest.TestCase):
 
     def test_silent(self):
         for query in (r'/from !address{[\d.]+} port/', '/^!x{a*}$/', '/^!x{[^\\n]*}\\n/', 'project none (/!x{a}/)', '/!x{a}(b+)/', '/a!x{b?}/',
-                      '/ !x{a} /', 'let w = /!x{a}/; w', '/!x{a}b/ join /!x{a}!y{b}/', '/!x{a}!y{b}/ join /!y{b}!z{c}/ join /!z{c}d/', '/!x{a}b/ join /c/', '/!x{a}b/ join /!y{b}c/ join /!x{a}!y{b}/', '/^(!x{a}|!x{b})/', '/^!x{a|b}$/', '/^!x{[|]}c/', '/!x{a}|!x{b}/'):
+                      '/ !x{a} /', 'let w = /!x{a}/; w', '/!x{a}b/ join /!x{a}!y{b}/', '/!x{a}!y{b}/ join /!y{b}!z{c}/ join /!z{c}d/', '/!x{a}b/ join /c/',
+                      '/!x{a}b/ join /!y{b}c/ join /!x{a}!y{b}/', '/^(!x{a}|!x{b})/', '/^!x{a|b}$/', '/^!x{[|]}c/', '/!x{a}|!x{b}/', r'/\n!x{a}/',
+                      r'/[^\w]!x{a}[^\w]/'):
             self.assertEqual(self.offsets(query), [], query)
 
     def test_what_other_atoms_say(self):
@@ -45,7 +46,7 @@ class Advice(unittest.TestCase):
     def test_shipped_queries(self):
         spoken = [os.path.basename(path) for path in sorted(glob.glob(os.path.join(EXAMPLES, '*.query')))
                   if rematch.advise(rematch.Query.from_file(path).text)]
-        self.assertEqual(spoken, ['cards.query'])
+        self.assertEqual(spoken, [])
 
 
 if __name__ == '__main__':

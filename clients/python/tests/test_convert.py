@@ -66,7 +66,7 @@ class Tables(Convert):
     def test_advice_is_for_a_terminal(self):
         """--quiet turns it off, and --silent the warnings too."""
         path = self.file('d', b'\xff\xfea\0')
-        words = ('csv', '-e', r'/[^\w]!x{a}[^\w]/', path)
+        words = ('csv', '-e', r'/ !x{[^ ]+} /', path)
         for more, watched, has_advice, has_warnings in (((), True, True, True), ((), False, False, True), (('--quiet',), True, False, True),
                                                         (('--silent',), True, False, False), (('--silent', '--quiet'), False, False, False)):
             told = asked(*words, *more, is_watched=watched)[2]
@@ -176,8 +176,7 @@ class Commands(Folder):
     def test_check(self):
         status, out, _ = asked('check', '-e', r'/\n!x{a+}/')
         self.assertEqual((status, out.split('\n')[:4]), (0, [r'query /\n!x{a+}/', 'variables x', 'atom 1 states 4 ways 6', 'reach 1 line feeds']))
-        self.assertIn('advice at 1: ', out)
-        self.assertIn('advice at 6: ', out)
+        self.assertEqual([line.split(': ')[0] for line in out.splitlines()[4:]], ['advice at 6'])
         self.assertEqual(asked('check', '-e', r'/\n!x{a+}/')[2], '')
         self.assertIn('no reach: an anchor', asked('check', '-e', '/^!x{a}/')[1])
         status, out, told = asked('check', '-e', '/a*?/')

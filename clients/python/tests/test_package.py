@@ -15,9 +15,11 @@ from support import PROGRAM, PYTHON
 from test_session import FAKE, serves
 
 
-LEFT = {'rematch.__main__'}  # modules without examples that run here
+LEFT = {'rematch.__main__'}  # modules and calls without examples that run here
 if importlib.util.find_spec('pandas') is None:
     LEFT.add('rematch.pandas')
+if importlib.util.find_spec('pyarrow') is None:
+    LEFT.add('rematch.query.Query.arrow')
 
 
 def modules():
@@ -29,7 +31,8 @@ def load_tests(loader, tests, pattern):
     for name in modules():
         module = importlib.import_module(name)
         names = {'Server': lambda: rematch.Server(FAKE)} if name == 'rematch.session' and not serves(PROGRAM) else {}
-        tests.addTests(doctest.DocTestSuite(module, extraglobs=names, optionflags=doctest.NORMALIZE_WHITESPACE))
+        examples = doctest.DocTestSuite(module, extraglobs=names, optionflags=doctest.NORMALIZE_WHITESPACE)
+        tests.addTests(example for example in examples if example.id() not in LEFT)
     return tests
 
 
@@ -79,7 +82,7 @@ class Package(unittest.TestCase):
         code = 'import sys; before = set(sys.modules); import rematch; print(*sorted(set(sys.modules) - before))'
         read = subprocess.run([sys.executable, '-c', code], stdout=subprocess.PIPE, universal_newlines=True, check=True).stdout.split()
         for heavy in ('argparse', 'asyncio', 'csv', 'html', 'tempfile', 'unicodedata', 'rematch.hints', 'rematch.view', 'rematch.many',
-                      'rematch.follow', 'rematch.replace', 'rematch.calls', 'http', 'pandas'):
+                      'rematch.follow', 'rematch.replace', 'rematch.calls', 'rematch.arrow', 'http', 'pandas', 'pyarrow'):
             self.assertNotIn(heavy, read)
 
 

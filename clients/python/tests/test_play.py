@@ -111,10 +111,14 @@ class Bounds(Served):
                                         (('html', '-e', '/!x{b}/', path), 6, 'longer than')):
                 found, _, told = asked(*words)
                 self.assertEqual((found, part in told), (status, True), told)
+            for words in (('why', '-e', '/!x{b}/', path), ('csv', '--encoding', 'latin-1', '-e', '/!x{b}/', path), ('csv', '-e', '/!x{b}/', path),
+                          ('count', '-e', '/!x{b}/', path), ('freq', '-e', '/!x{b}/', path)):  # it has no line feed to be cut at
+                found, _, told = asked(*words)
+                self.assertEqual((found, 'longer than' in told), (6, True), (words, told))
             with self.assertRaises(rematch.DocumentError):
                 play._text_of(path)
         with mock.patch('rematch.to.packed._MOST_UNPACKED', 300_000_000):
-            found, _, told = asked('count', '-e', '/!x{b}/', path)
+            found, _, told = asked('lines', '-e', '/!x{b}/', path)
             self.assertEqual((found, 'it holds more than 300000000 bytes' in told), (5, True), told)
 
 

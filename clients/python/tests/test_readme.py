@@ -10,6 +10,7 @@ import os
 import shutil
 import subprocess
 import unittest
+from importlib.util import find_spec
 
 from support import CLIENTS, EXAMPLES, PROGRAM, Folder
 
@@ -83,11 +84,9 @@ class Sessions(Folder):
         for number, block in blocks():
             if block[0].startswith('>>> '):
                 with self.subTest(line=number):
-                    if 'pandas' in block[0]:
-                        try:
-                            import pandas  # noqa: F401
-                        except ImportError:
-                            self.skipTest('pandas is not installed')
+                    for package in ('pandas', 'pyarrow'):
+                        if package in block[0] and find_spec(package) is None:
+                            self.skipTest('%s is not installed' % package)
                     test = doctest.DocTestParser().get_doctest('\n'.join(block) + '\n', {}, 'README.md', README, number - 1)
                     runner.run(test, out=told.append)
                     self.assertEqual(''.join(told), '')

@@ -49,9 +49,9 @@ class Columns(Folder):
         pick = random.Random(3)
         text = ''.join(pick.choice('aé漢😀\n') for _ in range(9000))
         data = text.encode()
-        places = tables.Characters(data)
+        places = tables.Characters(data).before
         for at in [0, len(data)] + [pick.randrange(len(data)) for _ in range(200)]:
-            self.assertEqual(places[at], len([byte for byte in data[:at] if byte & 0xC0 != 0x80]))
+            self.assertEqual(places(at), len([byte for byte in data[:at] if byte & 0xC0 != 0x80]))
 
     def test_context(self):
         self.assertEqual(self.table('--context', '3', '--columns', 'left,n,right', '--var', 'n'),

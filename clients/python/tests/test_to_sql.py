@@ -121,7 +121,7 @@ class Refused(Folder):
             self.assertIn(part, told, words)
 
     def test_faults_are_those_of_the_program(self):
-        for words, status, part in ((('-e', '/!x{a/'), 3, 'query: not closed at 1'), (('-e', '/!x{(a|b)*a(a|b){12}}/', '--max-table', '1'), 4, 'size: table past 1'),
+        for words, status, part in ((('-e', '/!x{a/'), 3, 'query: not closed at 1'), (('-e', 'a=-/!x{a}/'), 3, 'query: unexpected at 0'), (('-e', '/!x{(a|b)*a(a|b){12}}/', '--max-table', '1'), 4, 'size: table past 1'),
                                     (('-q', os.path.join(self.folder, 'none')), 5, 'No such file'), (('-e', '/a/', self.folder), 5, 'Is a directory'),
                                     (('-e', '/a/', '--csv', 't=' + self.folder), 5, 'Is a directory')):
             found, out, told = asked('sql', 'select 1', *words, stdin=b'ababababab')

@@ -32,7 +32,6 @@ __all__ = ['Command', 'main']
 _MANY = 3  # documents, of which small ones are asked of one program
 _WHOLE = ('bed', 'gff', 'fasta', 'ann', 'follow', 'check', 'why')  # the forms that search otherwise
 _ROWS_SEEN = ('csv', 'tsv', 'freq', 'kwic', 'count', 'html')  # the forms of which the rows say what is of rows
-_HEAD = 1 << 20  # bytes of a document that are looked at for what may hide rows
 
 
 def read_source(given: Words) -> bytes:
@@ -62,6 +61,8 @@ class Command:
         self.expansion: Expanded = expanded(in_form(read_source(given), given.normal))
         self.has_anchors = has_anchors_alone(self.expansion.source)
         self.has_told_of_rows = False
+        self.is_converted = bool(given.encoding or given.normal)
+        self.reads_once = given.form in ('any', 'check')  # whether of a document no more is read than its rows, in their order
         if given.form == 'check' and given.expanded:
             return
         self.query = self.read_query()
@@ -162,12 +163,12 @@ class Command:
 
     def opened(self, part: Part) -> Given:
         """The document of a part; what may hide its rows is told."""
-        found = part.given(self.refuse_long if part.piece is None else None)
-        if self.given.encoding or self.given.normal:
+        found = part.given(self.refuse_long if part.piece is None else None, is_read_once=self.reads_once and not self.is_converted)
+        if self.is_converted:
             found = converted(found, self.given.encoding, self.given.normal)
         self.progress.begin(found.name, found.document)
         if part.piece is None or part.piece.start == 0:
-            for doubt in doubts_of(found.data[:_HEAD], self.query, is_sequence=self.given.form in ('bed', 'gff', 'fasta')):
+            for doubt in doubts_of(found.head, self.query, is_sequence=self.given.form in ('bed', 'gff', 'fasta')):
                 self.tell(f'{found.name}: {doubt}')
             self.tell_of_lines(found)
         return found
@@ -181,7 +182,7 @@ class Command:
 
     def refuse_long(self) -> None:
         """Raises why a document that is too long for one run cannot be searched, before more of it is unpacked."""
-        if self.given.form in ('ann', 'html'):
+        if self.given.form in ('ann', 'html', 'why') or self.is_converted:
             raise too_long(str(self.name))
         if self.given.form not in ('bed', 'gff', 'fasta'):  # which search each record in windows
             reach_of_long(self.query)
@@ -193,34 +194,39 @@ class Command:
         for row in islice(rows, MOST_SEEN):
             seen.append(row)
             yield row
+        doubts = self.doubts_of_rows(found, seen)
         yield from rows
         self.tell_oddity(found, bool(seen))
-        self.tell_of_rows(found, seen)
+        for doubt in doubts:
+            self.tell(doubt)
 
-    def tell_of_rows(self, found: Given, seen: List[Row]) -> None:
+    def doubts_of_rows(self, found: Given, seen: List[Row]) -> List[str]:
         """What the rows say of the query, once for all documents."""
-        if seen and not self.given.silent and not self.has_told_of_rows:
-            told = doubts_of_rows(self.query.variables, seen, found.data)  # type: ignore[arg-type]
-            self.has_told_of_rows = bool(told)
-            for doubt in told:
-                self.tell(f'{found.name}: {doubt}')
+        seen = [row for row in seen if found.holds(row)]
+        if not seen or self.given.silent or self.has_told_of_rows:
+            return []
+        doubts = doubts_of_rows(self.query.variables, seen, found.data)
+        self.has_told_of_rows = bool(doubts)
+        return [f'{found.name}: {doubt}' for doubt in doubts]
 
     def tell_of_head(self, found: Given) -> None:
         """The same from the rows of the document's beginning, where rows are counted and not read."""
         if not self.given.silent and self.query.variables and not self.has_told_of_rows:
-            head = found if found.document is not None and found.size <= _HEAD else Given(found.name, Document(found.data[:_HEAD]))
-            self.tell_of_rows(head, list(islice(head.rows(self.query), MOST_SEEN)))
+            head = Given(found.name, Document(found.head))
+            for doubt in self.doubts_of_rows(head, list(islice(head.rows(self.query), MOST_SEEN))):
+                self.tell(doubt)
             self.has_told_of_rows = True  # which is looked at in the first document that has rows
 
     def tell_oddity(self, found: Given, has_rows: bool) -> None:
         """What may be the reason that a document has no row."""
-        oddity = None if has_rows or type(found) is not Given else oddity_of(found.data[:4096])
+        oddity = oddity_of(found.head) if found.is_whole and not has_rows else None
         if oddity is not None:
             self.tell(f'{found.name}: no row, and {oddity}')
 
     def documents(self, form: Form) -> None:
         """Writes what the form makes of each document; where none can be read it writes nothing."""
         self.head: Optional[str] = form.head()
+        self.reads_once = form.reads_once
         jobs = 1 if self.given.most is not None and form.is_text else self.given.jobs or 1
         has_read = False
         for part, value in self.values(form, jobs) if jobs > 1 else self.values_in_turn(form):
@@ -258,7 +264,7 @@ class Command:
             return written_aside(value) if form.is_text else value
 
         lines: Optional[int] = None
-        if form.takes_pieces and not (self.given.encoding or self.given.normal):
+        if form.takes_pieces and not self.is_converted:
             try:
                 lines = reach(self.query)
             except NoReach:

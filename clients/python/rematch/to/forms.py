@@ -1,14 +1,16 @@
 """The forms of ``rematch-to`` that take one document after another: what each makes of a document, and what is written of it."""
 from __future__ import annotations
 
+import os
 import sys
+from array import array
 from collections import Counter
 from itertools import islice
 from typing import TYPE_CHECKING, Any, Dict, Iterable, Iterator, List, NoReturn, Optional, Sequence, Tuple, Type
 
 from ..match import Row
 from .packed import Given
-from .tables import Context, Layout, Table, concordance, json_lines, sorted_contexts
+from .tables import Context, Layout, Table, concordance, first_place, json_lines, shown_text, sorted_contexts
 from .jobs import Part
 from .lines import count_lines, shown_lines
 
@@ -31,6 +33,7 @@ class Form:
     is_text = True
     is_sequence = False  # whether records of sequences are searched
     takes_pieces = True  # whether a piece of a document can be done by itself
+    reads_once = False  # whether of a document no more is read than its rows, in their order
 
     def __init__(self, command: 'Command') -> None:
         self.command = command
@@ -81,6 +84,7 @@ class _Csv(Form):
         super().__init__(command)
         if self.given.var is not None and self.given.context is None and not self.given.sentence:
             refuse('--var is for --context and --sentence here: give one of them too')
+        self.reads_once = self.given.context is None and not self.given.sentence and not self.given.characters
         try:
             self.table = Table(self.query, layout_of(self.given, self.delimiter))
         except ValueError as reason:
@@ -98,6 +102,8 @@ class _Tsv(_Csv):
 
 
 class _Json(Form):
+    reads_once = True
+
     def __init__(self, command: 'Command') -> None:
         super().__init__(command)
         twice = next((name for name in ('document', 'line') if name in self.query.variables), None)
@@ -106,6 +112,38 @@ class _Json(Form):
 
     def of(self, found: Given) -> Iterator[str]:
         return self.limited(json_lines(self.query, found, self.command.rows(found), is_texts_alone=bool(self.given.texts)))
+
+
+class _Parquet(Form):
+    """A file of Parquet, which pyarrow writes once all rows are there."""
+    is_text = False
+
+    def __init__(self, command: 'Command') -> None:
+        from importlib.util import find_spec
+        from ..arrow import Columns
+        super().__init__(command)
+        if find_spec('pyarrow') is None:
+            refuse('parquet needs the package pyarrow: pip install pyarrow; csv needs none')
+        if self.given.out is None and sys.stdout.isatty():
+            refuse('parquet is no text for a terminal: -o NAME writes it to a file')
+        try:
+            self.columns = Columns(self.query.variables, kind='q', has_lines=True)
+        except ValueError as reason:
+            refuse(str(reason))
+
+    def of(self, found: Given) -> None:
+        data, number = found.data, found.numbers()
+        places, lines = array('q'), array('q')
+        for row in self.command.rows(found):
+            first = first_place(row)
+            places.extend(row)
+            lines.append(-1 if first is None else number(first))
+        name = shown_text(os.fsencode(found.name))
+        self.columns.add(name, places, len(lines), lambda start, end: shown_text(data[start:end]), lines)
+
+    def end(self) -> Iterable[str]:
+        from ..arrow import parquet_of
+        yield parquet_of(self.columns).decode('utf-8', 'surrogateescape')  # of which the output makes the same bytes
 
 
 class Drawn:
@@ -186,7 +224,7 @@ class _Lines(Form):
 
     def of(self, found: Given) -> Iterator[str]:
         is_begun = False
-        data: bytes = found.data  # type: ignore[assignment]
+        data: bytes = found.data
         name = f'{found.name}:' if len(self.command.names) > 1 else ''
         around, is_coloured = self.given.around or 0, self.command.is_coloured
         left_around = around  # lines after the last one that is asked for
@@ -215,7 +253,7 @@ class _Count(Form):
 
     def __init__(self, command: 'Command') -> None:
         super().__init__(command)
-        self.takes_pieces = not self.given.lines
+        self.takes_pieces = self.reads_once = not self.given.lines
         self.total = 0
         self.of_document: Optional[Tuple[str, int]] = None  # of which pieces may come
 
@@ -250,6 +288,7 @@ class _Count(Form):
 
 class _Freq(Form):
     is_text = False
+    reads_once = True
 
     def __init__(self, command: 'Command') -> None:
         super().__init__(command)
@@ -265,7 +304,7 @@ class _Freq(Form):
         self.takes_pieces = bool(self.given.rows) or set(self.names) == set(self.query.variables)  # each row has places of its own then
 
     def of(self, found: Given) -> 'Counter[Tuple[bytes, ...]]':
-        data: bytes = found.data  # type: ignore[assignment]
+        data: bytes = found.data
         rows = self.command.rows(found)
         return Counter(tuple([data[row[k]:row[k + 1]] if row[k] >= 0 else b'' for k in self.at])
                        for row in (rows if self.takes_pieces else self.places(rows)))
@@ -284,7 +323,7 @@ class _Freq(Form):
         return ()
 
     def end(self) -> Iterable[str]:
-        from .tables import cell_of, shown_text
+        from .tables import cell_of
         yield '' if self.given.no_head else ','.join(['count', *self.names]) + '\n'
         for texts, count in islice(sorted(self.counts.items(), key=lambda item: (-item[1], item[0])), self.given.most):
             yield ','.join([str(count), *(cell_of(shown_text(text), ',') for text in texts)]) + '\n'
@@ -304,7 +343,7 @@ class _Places(Form):
     def sites(self, found: Given) -> Iterator['Site']:
         """The sites of a document, by record and place where that is asked for."""
         from .sequences import in_order, once, sites
-        data: bytes = found.data  # type: ignore[assignment]
+        data: bytes = found.data
         self.tell_letters(found.name, data)
         every = sites(self.query, data, both=not self.given.forward, left_out=self.left_out(found))
         if self.given.strand_once:
@@ -361,6 +400,5 @@ class _Fasta(_Places):
         return fasta_lines(self.sites(found), self.query.variables)
 
 
-DOCUMENT_FORMS: Dict[str, Type[Form]] = {'csv': _Csv, 'tsv': _Tsv, 'json': _Json, 'kwic': _Kwic, 'lines': _Lines, 'count': _Count, 'freq': _Freq,
-                                         'bed': _Bed,
-                                         'gff': _Gff, 'fasta': _Fasta}
+DOCUMENT_FORMS: Dict[str, Type[Form]] = {'csv': _Csv, 'tsv': _Tsv, 'json': _Json, 'parquet': _Parquet, 'kwic': _Kwic, 'lines': _Lines,
+                                         'count': _Count, 'freq': _Freq, 'bed': _Bed, 'gff': _Gff, 'fasta': _Fasta}

@@ -29,14 +29,16 @@ class Part(NamedTuple):
     name: str
     piece: Optional[Piece] = None
 
-    def given(self, refuse_long: Optional[Callable[[], None]] = None) -> Given:
-        """The document, or what has the rows of the piece alone; ``refuse_long`` is as of `given_document`."""
-        found = given_document(self.name, refuse_long)
+    def given(self, refuse_long: Optional[Callable[[], None]] = None, *, is_read_once: bool = False) -> Given:
+        """The document, or what has the rows of the piece alone; ``refuse_long`` and ``is_read_once`` are as of `given_document`."""
+        found = given_document(self.name, refuse_long, is_read_once=is_read_once)
         return found if self.piece is None else PieceOfDocument(found, self.piece)
 
 
 class PieceOfDocument(Given):
     """A document of which a piece alone is searched; its bytes and places are those of the whole."""
+
+    is_whole = False
 
     def __init__(self, whole: Given, piece: Piece) -> None:
         super().__init__(whole.name, whole.document, whole._file)

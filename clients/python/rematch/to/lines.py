@@ -59,7 +59,7 @@ def count_lines(given: Given, rows: Iterable[Row]) -> int:
     >>> count_lines(given, given.rows(Query('/!x{a}/')))
     2
     """
-    data: bytes = given.data  # type: ignore[assignment]
+    data: bytes = given.data
     return sum(len(list(_lines(data, part.start, part.end))) for part in _touched(data, rows))
 
 
@@ -126,7 +126,7 @@ def shown_lines(given: Given, rows: Iterable[Row], around: int = 0, *, others: b
     >>> [line.number for line in shown_lines(given, given.rows(Query('/!x{w}/')), others=True)]
     [1, 3, 4]
     """
-    data: bytes = given.data  # type: ignore[assignment]
+    data: bytes = given.data
     wanted = _gaps(data, _touched(data, rows)) if others else _touched(data, rows, keep=keep)
     number, shown_to = 1, 0  # of the line that begins at shown_to
     for part, behind in _with_next(wanted):

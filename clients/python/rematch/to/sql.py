@@ -19,7 +19,7 @@ from .convert import Command
 from .output import fault_of_output, output
 from .packed import Given
 from .progress import Progress
-from .tables import line_numbers, shown_text
+from .tables import shown_text
 from .words import SQL_EXAMPLES, Words, read_words
 
 __all__ = ['main', 'seconds_of']
@@ -122,8 +122,7 @@ def _cell(part: bytes) -> Cell:
 
 def _cells(found: Given, rows: Iterator[Row]) -> Iterator[List[Cell]]:
     """The cells of each row: document, line, and of each variable its text, its start and its end."""
-    data: Any = found.data
-    number = line_numbers(data)
+    data, number = found.data, found.numbers()
     for row in rows:
         first = min((start for start in row[::2] if start >= 0), default=None)
         cells: List[Cell] = [found.name, None if first is None else number(first)]
@@ -140,7 +139,7 @@ class _Opened(NamedTuple):
     found: Given
     piece: None = None
 
-    def given(self, refuse_long: Any = None) -> Given:
+    def given(self, refuse_long: Any = None, *, is_read_once: bool = False) -> Given:
         return self.found
 
 
@@ -269,7 +268,7 @@ def _sources(given: argparse.Namespace) -> List[Source]:
 
 def _words_of(source: Source, given: argparse.Namespace) -> Words:
     """The words that a query is read with, as for a table."""
-    words = ['csv', '-q' if source.is_file else '-e', source.text]
+    words = ['csv', ('-q=' if source.is_file else '-e=') + source.text]  # in one word, since a text may begin with a -
     words += ['--quiet'] * given.quiet + ['--silent'] * given.silent + ['--filter'] * given.filter
     words += [] if given.max_table is None else ['--max-table', str(given.max_table)]
     return read_words(words)

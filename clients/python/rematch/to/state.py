@@ -6,7 +6,6 @@ import os
 import sys
 import time
 from glob import escape, glob
-from io import BytesIO
 from typing import IO, TYPE_CHECKING, Any, Dict, Iterator, List, NamedTuple, Optional, Tuple
 
 from ..documents import packed_by, unreadable
@@ -79,7 +78,7 @@ def _place_of(file: IO[bytes], place: int) -> Place:
 # -- Files that were turned over
 
 def _opened(name: str) -> IO[bytes]:
-    """A file, unpacked into memory where it is packed."""
+    """A file, unpacked where it is packed: into memory, or where it is long into a file for a while."""
     try:
         file: IO[bytes] = open(name, 'rb')
         if packed_by(file.read(10)) is None:
@@ -87,7 +86,7 @@ def _opened(name: str) -> IO[bytes]:
         file.close()
     except OSError as fault:
         raise unreadable(name, fault) from fault
-    return BytesIO(given_document(name).data[:])
+    return given_document(name).opened()
 
 
 def _older(name: str) -> List[str]:

@@ -5,7 +5,6 @@ import os
 import re
 import unicodedata
 from array import array
-from bisect import bisect_right
 from itertools import accumulate
 from typing import Any, Callable, Dict, Iterable, Iterator, List, NamedTuple, Optional, Sequence, TextIO, Tuple
 
@@ -16,23 +15,8 @@ from ..visible import BIDI
 from .packed import Given
 from .sentences import sentence_round
 
-__all__ = ['Characters', 'Context', 'Layout', 'Table', 'concordance', 'extent_of', 'json_lines', 'line_numbers', 'sorted_contexts',
+__all__ = ['Characters', 'Context', 'Layout', 'Table', 'concordance', 'extent_of', 'first_place', 'json_lines', 'sorted_contexts',
            'write_annotations']
-
-
-def line_numbers(data: bytes) -> Callable[[int], int]:
-    """A function from a place to the number of its line, from 1.
-
-    >>> number = line_numbers(b'ab\\ncd\\n')
-    >>> number(0), number(2), number(3), number(6)
-    (1, 1, 2, 3)
-    """
-    starts = [0]
-    at = data.find(b'\n')
-    while at >= 0:
-        starts.append(at + 1)
-        at = data.find(b'\n', at + 1)
-    return lambda place: bisect_right(starts, place)
 
 
 def shown_text(part: bytes) -> str:
@@ -40,7 +24,8 @@ def shown_text(part: bytes) -> str:
     return part.decode('utf-8', 'backslashreplace')
 
 
-def _first(row: Row) -> Optional[int]:
+def first_place(row: Row) -> Optional[int]:
+    """Where the first span of a row begins; None for a row without spans."""
     return min((start for start in row[::2] if start >= 0), default=None)
 
 
@@ -59,7 +44,7 @@ def cell_of(text: str, delimiter: str) -> str:
 class Characters:
     """How many characters begin before a place in bytes.
 
-    >>> Characters('né'.encode())[3]
+    >>> Characters('né'.encode()).before(3)
     2
     """
 
@@ -68,7 +53,8 @@ class Characters:
         sizes = (len(data[start:start + _BLOCK].translate(None, REST)) for start in range(0, len(data), _BLOCK))
         self._before = array('q', accumulate(sizes, initial=0))
 
-    def __getitem__(self, at: int) -> int:
+    def before(self, at: int) -> int:
+        """The number, for a place."""
         block = at // _BLOCK
         return self._before[block] + len(self._data[block * _BLOCK:at].translate(None, REST))
 
@@ -136,10 +122,10 @@ class Table:
 
     def _usual(self, given: Given, rows: Iterable[Row], first_line: int, base: int) -> Iterator[str]:
         data, delimiter = given.data, self._layout.delimiter
-        number = line_numbers(data)  # type: ignore[arg-type]
+        number = given.numbers()
         name = cell_of(given.name, delimiter)
         for row in rows:
-            first = _first(row)
+            first = first_place(row)
             cells = [name, '' if first is None else str(number(first) + first_line - 1)]
             places = iter(row)
             for start, end in zip(places, places):
@@ -149,29 +135,29 @@ class Table:
 
     def _chosen(self, given: Given, rows: Iterable[Row], first_line: int, base: int) -> Iterator[str]:
         data, delimiter = given.data, self._layout.delimiter
-        number = line_numbers(data)  # type: ignore[arg-type]
-        told: Any = Characters(data) if self._layout.is_in_characters else range(base,
-                                                                                 base + len(data) + 1)  # type: ignore[arg-type]
+        number = given.numbers()
+        told = Characters(data).before if self._layout.is_in_characters else lambda place: place + base
         makers = [self._maker(name, given, lambda place: number(place) + first_line - 1, told) for name in self._names]
         for row in rows:
             yield (delimiter.join([maker(row) for maker in makers]) or '""') + '\n'  # readers of tables pass over an empty line
 
-    def _maker(self, name: str, given: Given, number: Callable[[int], int], told: Any) -> Callable[[Row], str]:
+    def _maker(self, name: str, given: Given, number: Callable[[int], int],
+               told: Callable[[int], int]) -> Callable[[Row], str]:
         """What makes the cells of a column."""
         data, delimiter = given.data, self._layout.delimiter
         if name == 'document':
             shown = cell_of(given.name, delimiter)
             return lambda row: shown
         if name == 'line':
-            return lambda row: '' if _first(row) is None else str(number(_first(row)))  # type: ignore[arg-type]
+            return lambda row: '' if first_place(row) is None else str(number(first_place(row)))  # type: ignore[arg-type]
         if name in self._query.variables:
             at = 2 * self._query.variables.index(name)
             return lambda row: '' if row[at] < 0 else cell_of(shown_text(data[row[at]:row[at + 1]]), delimiter)
         if name in ('left', 'right'):
-            return lambda row: cell_of(self._around(name, data, row), delimiter)  # type: ignore[arg-type]
+            return lambda row: cell_of(self._around(name, data, row), delimiter)
         variable, _, side = name.rpartition('_')
         place = 2 * self._query.variables.index(variable) + (side == 'end')
-        return lambda row: '' if row[place] < 0 else str(told[row[place]])
+        return lambda row: '' if row[place] < 0 else str(told(row[place]))
 
     def _around(self, side: str, data: bytes, row: Row) -> str:
         """What stands before or behind the middle of a row, on one line."""
@@ -195,7 +181,7 @@ def extent_of(row: Row) -> Optional[Tuple[int, int]]:
     >>> extent_of((-1, -1, 3, 4, 1, 2)), extent_of(())
     ((1, 4), None)
     """
-    first = _first(row)
+    first = first_place(row)
     return None if first is None else (first, max(row[1::2]))
 
 
@@ -212,9 +198,9 @@ def json_lines(query: Query, given: Given, rows: Iterable[Row], *, is_texts_alon
     """
     from json import dumps
     data = given.data
-    number = line_numbers(data)  # type: ignore[arg-type]
+    number = given.numbers()
     for row in rows:
-        first = _first(row)
+        first = first_place(row)
         cells: Dict[str, Any] = {'document': shown_text(os.fsencode(given.name)), 'line': None if first is None else number(first)}
         places = iter(row)
         for name, start, end in zip(query.variables, places, places):
@@ -295,14 +281,14 @@ def concordance(query: Query, given: Given, rows: Iterable[Row], name: str, colu
     ['  d:1   aa   bb   cc']
     """
     data = given.data
-    number = line_numbers(data)  # type: ignore[arg-type]
+    number = given.numbers()
     at = 2 * query.variables.index(name)
     for row in rows:
         start, end = row[at], row[at + 1]
         if start < 0:
             continue
         if columns is None:
-            left, right = sentence_round(data, start, end)  # type: ignore[arg-type]
+            left, right = sentence_round(data, start, end)
         else:
             left = data[max(0, start - 4 * columns):start].decode('utf-8', 'ignore')
             right = data[end:end + 4 * columns].decode('utf-8', 'ignore')

@@ -2,7 +2,6 @@
 from __future__ import annotations
 
 import os
-import re
 from heapq import merge
 from itertools import islice
 from typing import Any, Dict, Iterator, List, Optional, Sequence, Tuple
@@ -11,6 +10,8 @@ from ..documents import Source, open_document
 from ..faults import QueryError, SizeError
 from ..match import Row
 from ..query import Query
+from ..reader import read
+from ..tree import ones_of
 
 __all__ = ['ListQuery', 'formula_of', 'queries_of', 'words_of']
 
@@ -18,7 +19,6 @@ _MOST_SIGNS, _MOST_BYTES = 17_000, 60_000  # of the formula of one query: its au
 _MOST_OPEN = 90  # groups within each other
 _LONGEST = 1000  # bytes of a word
 _EDGE = 4  # bytes of a character beside a word
-_SIGN = re.compile(r'\\.|\[(?:\\.|[^]\\])*\]|[^()|?]')
 _PUNCTUATION = frozenset('!"#$%&\'()*+,-./:;<=>?@[\\]^_`{|}~') - {'_'}
 
 
@@ -95,13 +95,21 @@ def queries_of(words: Sequence[str]) -> List[str]:
 def _formulas(words: Sequence[str]) -> Iterator[str]:
     """The formulas of the words, as many as it takes."""
     formula = formula_of(words)
-    signs = sum(1 if sign.isascii() else len(sign.encode()) for sign in _SIGN.findall(formula))
-    if len(words) == 1 or (signs <= _MOST_SIGNS and len(formula.encode()) <= _MOST_BYTES):
+    if len(words) == 1 or (len(formula.encode()) <= _MOST_BYTES and _signs_of(formula) <= _MOST_SIGNS):
         yield formula
         return
     middle = len(words) // 2
     yield from _formulas(words[:middle])
     yield from _formulas(words[middle:])
+
+
+def _signs_of(formula: str) -> int:
+    """How many signs and classes a formula has; of what is past ASCII each byte counts.
+
+    >>> _signs_of('ab(ate|bey(s)?)'), _signs_of('[ai]s'), _signs_of('é')
+    (9, 2, 2)
+    """
+    return sum(1 if one.text.isascii() else len(one.text) for one in ones_of(read(f'/{formula}/u').atoms[0].formula))
 
 
 # -- The rows of several queries

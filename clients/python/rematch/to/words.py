@@ -28,6 +28,9 @@ FORMS: Dict[str, Form] = {
     'json': Form('an object of JSON for each row: document, line, and start, end and text of each variable',
                  "rematch-to json -q failed.query auth.log | jq -r '.user[2]'\n\n"
                  'Texts are as they are; bytes that are no UTF-8 are \\xhh. With --texts a variable is its text alone.'),
+    'parquet': Form('the table of csv as a file of Parquet, where the package pyarrow is installed',
+                    "rematch-to parquet -q failed.query auth.log* -o failed.parquet\n\n"
+                    'All rows are held in memory until they are written. Absent variables are null.'),
     'kwic': Form('a concordance of one variable', "rematch-to kwic --sort right -e '/[^\\w]!w{the}[^\\w]/' text.txt\n"
                  "rematch-to kwic -n 20 --sample 7 -e '/[^\\w]!w{the}[^\\w]/' *.txt\n\n"
                  "rematch-to kwic --sentence -e '/[^\\w]!w{tide}[^\\w]/' text.txt\n\n"
@@ -90,7 +93,7 @@ OTHER_FORMS: Dict[str, Form] = {
 _TABLES, _PLACES = ('csv', 'tsv', 'follow'), ('bed', 'gff', 'fasta')
 _JOBS = ('csv', 'tsv', 'json', 'kwic', 'lines', 'count', 'freq', *_PLACES)
 _FIRST = ('csv', 'tsv', 'json', 'kwic', 'lines', 'freq')
-_LISTS = (*_FIRST, 'count', 'any', 'html')
+_LISTS = (*_FIRST, 'parquet', 'count', 'any', 'html')
 _TEXTS = (*_LISTS, 'ann', 'why')
 
 
