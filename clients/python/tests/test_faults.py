@@ -28,7 +28,7 @@ BEGINNERS = [
     ('/!x{a}/ where len(x) > 5', 'only tests'), ('/!x{a}/ where luhn(x) and x > 5', 'commas'), ('/!x{a}/ where', 'only tests'), ('/a/ OR /b/', 'union'),
     ('part ip = /a/; /%{ip}/', 'rematch-to and rematch-piece read parts'), ('/from where (?:a)/', '(..)'),
     ('\ufeff/!x{a}/', 'byte order mark'), (r'/a\R/', r'(\r?\n)'), ('/!größe{a}/', 'letters of ASCII'), ('[pos="JJ"]', 'between slashes'),
-    (r'/$user{\w+}/', 'as !name{..}'), (r'/!{\w+}/', 'a capture has a name'), ('/^a/m', 'reads m'), ('/a%{ip}/', 'read parts'), ('/[a-z]/ & /b/', 'and is join')]
+    (r'/$user{\w+}/', 'as !name{..}'), (r'/!{\w+}/', 'a capture has a name'), ('/^a/m', 'read m'), ('/a%{ip}/', 'read parts'), ('/[a-z]/ & /b/', 'and is join')]
 
 
 class Places(unittest.TestCase):
