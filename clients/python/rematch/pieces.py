@@ -13,7 +13,8 @@ from __future__ import annotations
 import os
 from typing import IO, Any, Dict, Iterator, List, NamedTuple, Optional, Sequence, Tuple, Union
 
-from .documents import unreadable, packed_by
+from .documents import MOST_BYTES, unreadable, packed_by
+from .faults import DocumentError
 from .match import Row
 from .query import Query
 from ._reach import NoReach, Ties, reach_of_printed, ties_of_printed
@@ -156,11 +157,20 @@ def _taken(query: Query, path: Path, piece: Piece, lines: Optional[int]) -> Tupl
         piece = Piece(min(piece.start, total), min(piece.end, total))
         first = lines_back(file, piece.start, reached)
         last = _lines_on(file, piece.end, reached)
+        if last - first > MOST_BYTES:
+            raise too_long_a_line()
         file.seek(first)
         part = file.read(last - first)
     if len(part) != last - first:
         raise unreadable(os.fspath(path), ValueError('the file has changed while it was read'))
     return first, part, _owned(query, part, first, piece, piece.end == total)
+
+
+def too_long_a_line() -> DocumentError:
+    """The fault of a document in which a line, with those around it, is more than one run takes."""
+    fault = DocumentError(f'document longer than {MOST_BYTES} bytes', 6)
+    fault.hint = 'it is cut at line ends, and a line, with those around it that the query reaches, is longer than that'
+    return fault
 
 
 def _owned(query: Query, part: bytes, first: int, piece: Piece, owns_end: bool) -> Iterator[Row]:

@@ -11,7 +11,7 @@ from support import DOCS, PROGRAM, Folder, knows
 
 # What beginners write and the program refuses, and a part of the hint.
 BEGINNERS = [
-    (r'/a*?b/', 'lazy'), (r'/a+?/', 'lazy'), (r'/a++/', 'group'), (r'/a{2}{3}/', 'group'), (r'/\bthe\b/', r'reads \b'), (r'/\Ba/', r'\w'),
+    (r'/a*?b/', 'lazy'), (r'/a+?/', 'lazy'), (r'/a++/', 'group'), (r'/a{2}{3}/', 'group'), (r'/\bthe\b/', r'read \b'), (r'/\Ba/', r'\w'),
     (r'/\D/', r'[^\d]'), (r'/\W+/', r'[^\w]'), (r'/\S+/', r'[^\s]'), (r'/\Aab/', '^'), (r'/ab\Z/', '$'), (r'/ab\z/', '$'),
     (r'/\p{L}/', 'flag u'), (r'/\P{L}/u', r'[^\p{..}]'), (r'/\u{e9}/', 'flag u'), (r'/\x9/', 'two digits'), (r'/\f/', r'\x0c'),
     (r'/\v/', r'\x0b'), (r'/\0/', r'\x00'), (r'/(a)\1/', 'back-references'), (r'/\k<x>/', 'back-references'), ('/a{,3}/', '{0,k}'),
@@ -28,7 +28,7 @@ BEGINNERS = [
     ('/!x{a}/ where len(x) > 5', 'only tests'), ('/!x{a}/ where luhn(x) and x > 5', 'commas'), ('/!x{a}/ where', 'only tests'), ('/a/ OR /b/', 'union'),
     ('part ip = /a/; /%{ip}/', 'rematch-to and rematch-piece read parts'), ('/from where (?:a)/', '(..)'),
     ('\ufeff/!x{a}/', 'byte order mark'), (r'/a\R/', r'(\r?\n)'), ('/!größe{a}/', 'letters of ASCII'), ('[pos="JJ"]', 'between slashes'),
-    (r'/$user{\w+}/', 'as !name{..}'), (r'/!{\w+}/', 'a capture has a name'), ('/^a/m', 'reads m'), ('/a%{ip}/', 'read parts'), ('/[a-z]/ & /b/', 'and is join')]
+    (r'/$user{\w+}/', 'as !name{..}'), (r'/!{\w+}/', 'a capture has a name'), ('/^a/m', 'read m'), ('/a%{ip}/', 'read parts'), ('/[a-z]/ & /b/', 'and is join')]
 
 
 class Places(unittest.TestCase):

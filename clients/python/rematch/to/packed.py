@@ -17,7 +17,7 @@ from typing import IO, Any, Callable, Iterator, List, Optional
 from ..documents import MOST_BYTES, Document, unreadable, packed_by
 from ..faults import DocumentError, RematchError
 from ..match import Row
-from ..pieces import NoReach, reach, rows_in_pieces, rows_of_stream
+from ..pieces import NoReach, reach, rows_in_pieces, rows_of_stream, too_long_a_line
 from ..query import Query
 
 __all__ = ['Given', 'Held', 'Streamed', 'given_document', 'line_numbers', 'reach_of_long', 'too_long']
@@ -216,9 +216,7 @@ class Held:
         if self._is_over:
             return False
         if len(self._bytes) > _MOST_HELD:
-            fault = DocumentError(f'document longer than {MOST_BYTES} bytes', 6)
-            fault.hint = 'it is cut at line ends, and a line, with those around it that the query reaches, is longer than that'
-            raise fault
+            raise too_long_a_line()
         found = self._more(_COPIED)
         self._bytes += found
         self._number, self._is_over = None, not found
