@@ -131,9 +131,14 @@ static uint32_t refused_open(const rematch_query *query, rematch_rows *rows, rem
     return refused(note, why);
 }
 
+static const rematch_options usual = REMATCH_OPTIONS;
+
+uint64_t rematch_usual_table(void) {
+    return usual.max_table;
+}
+
 uint32_t rematch_open(rematch_query *query, const void *document, size_t length, const rematch_options *options,
                       rematch_rows *rows, rematch_text *note) {
-    static const rematch_options usual = REMATCH_OPTIONS;
     rematch_text own, *told_to = note != NULL ? note : &own;
     const char *why = fault_of_open(query, rows, &document, length);
     if (why != NULL)
@@ -148,7 +153,6 @@ static bool is_start(const char *cursor, size_t length) {
 
 uint32_t rematch_open_after(rematch_query *query, const void *document, size_t length, const rematch_options *options,
                             const char *cursor, size_t cursor_length, rematch_rows *rows, rematch_text *note) {
-    static const rematch_options usual = REMATCH_OPTIONS;
     rematch_text own, *told_to = note != NULL ? note : &own;
     if (is_start(cursor, cursor_length))
         return rematch_open(query, document, length, options, rows, note);

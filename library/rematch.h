@@ -162,6 +162,9 @@ REMATCH_API uint32_t rematch_run(const rematch_command *command, rematch_output 
 /* Frees what a slot of either kind holds, which is empty then. An empty slot and a null pointer are left as they are. */
 REMATCH_API void rematch_close(void *slot);
 
+/* The max_table of REMATCH_OPTIONS, for callers that do not read this header. */
+REMATCH_API uint64_t rematch_usual_table(void);
+
 /* The version of the library, as "1.0.0". It is never freed. */
 REMATCH_API const char *rematch_version(void);
 

@@ -280,6 +280,7 @@ static void asks_a_thousand_documents(void) {
 
 int main(void) {
     CHECK(strcmp(rematch_version(), EXPECTED_VERSION) == 0);
+    CHECK(rematch_usual_table() == ((rematch_options)REMATCH_OPTIONS).max_table);
     refuses_texts();
     names_variables();
     gives_rows();

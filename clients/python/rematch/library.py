@@ -16,7 +16,6 @@ from .faults import SizeError, error_of
 __all__ = ['Compiled', 'Rows', 'compiled', 'find_library', 'numbers_view']
 
 NAME = 'librematch.so.1'
-USUAL_TABLE = 8_000_000
 _HERE = os.path.dirname(os.path.abspath(__file__))
 _FIRST, _LAST = 64, 1 << 16  # rows that are asked for at once, at first and at most
 _NO_ROOM = 8  # the status of an output without room
@@ -96,18 +95,24 @@ def _library(path: str) -> CDLL:
             if call is not None:
                 call.argtypes, call.restype = types, c_uint32
         found.rematch_close.argtypes, found.rematch_close.restype = (_SLOT,), None
+        if hasattr(found, 'rematch_usual_table'):  # of version 1.4
+            found.rematch_usual_table.argtypes, found.rematch_usual_table.restype = (), c_uint64
         found.rematch_version.argtypes, found.rematch_version.restype = (), c_char_p
         _loaded[path] = found
     return found
 
 
 def compiled(text: bytes, filter: bool, max_table: Optional[int], is_named: bool) -> Optional['Compiled']:
-    """A query that the library has compiled; None where the program is to run, as of a query that is too large."""
+    """A query that the library has compiled; None where the program is to run, as of a query that is too large, or of one that asks for the
+    usual limit of the table of a library that does not say it."""
     path = find_library(is_named)
     if path is None:
         return None
+    library = _library(path)
+    if max_table is None and not hasattr(library, 'rematch_usual_table'):
+        return None
     try:
-        return Compiled(_library(path), text, filter, USUAL_TABLE if max_table is None else max_table)
+        return Compiled(library, text, filter, library.rematch_usual_table() if max_table is None else max_table)
     except SizeError:
         return None
 

@@ -53,6 +53,21 @@ class Spans(unittest.TestCase):
 
 
 @with_library
+class UsualTable(unittest.TestCase):
+    """The usual limit of the table is the library's."""
+
+    def test_it_is_taken_from_the_library(self):
+        library = rematch.library._library(LIBRARY)
+        with mock.patch.object(library, 'rematch_usual_table', lambda: 1), self.assertRaisesRegex(rematch.SizeError, 'table past 1'):
+            list(rematch.Query('/!x{(a|b)*}/').rows(b'abab'))
+        self.assertGreater(library.rematch_usual_table(), 1)
+
+    def test_without_it_the_program_is_run(self):
+        with mock.patch.object(rematch.library, '_library', return_value=object()):
+            self.assertIsNone(rematch.Query('/!x{a}/')._inside)
+
+
+@with_library
 class Memory(unittest.TestCase):
     """What a call reads stays where it is until the call is over."""
 
