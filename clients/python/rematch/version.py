@@ -5,7 +5,7 @@ from typing import Optional
 
 __all__ = ['VERSION', 'program_sum', 'version_text']
 
-VERSION = '1.3.0'  # that of the file VERSION of the checkout
+VERSION = '1.4.0'  # that of the file VERSION of the checkout
 
 
 def program_sum(path: Optional[str] = None) -> str:
