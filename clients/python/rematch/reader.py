@@ -8,7 +8,7 @@ the program's, and of a class that leaves out properties it is not seen here whe
 from __future__ import annotations
 
 import re
-from typing import Dict, List, Match, Optional, Pattern, Tuple, Union
+from typing import Container, Dict, List, Match, Optional, Pattern, Tuple, Union
 
 from . import sets
 from .faults import QueryError
@@ -80,11 +80,13 @@ def read(text: Union[str, bytes], *, conveniences: bool = False, is_limited: boo
 class _FormulaReader:
     """Reads the atom whose slash is at ``start``."""
 
-    def __init__(self, text: bytes, start: int, definitions: Optional[Dict[bytes, Definition]], most_open: int) -> None:
+    def __init__(self, text: bytes, start: int, definitions: Optional[Dict[bytes, Definition]], most_open: int,
+                 lets: Container[bytes]) -> None:
         self.text = text
         self.start = start
         self.at = start + 1
         self.definitions = definitions  # None where conveniences are not read
+        self.lets = lets  # the names of those before the atom
         self.most_open = most_open
         self.openers = [start]  # of the slash, and of the groups, captures and classes that are open
         self.deepest = 0  # the most groups and captures that were open at once
@@ -336,9 +338,9 @@ class _FormulaReader:
         assert self.definitions is not None
         part = self.definitions.get(name)
         if part is None:
-            is_let = re.search(rb'\blet\s+%s\s*=' % name, self.text) is not None
             shown = name.decode()
-            raise self.fault('unknown name', self.at, f'{shown} is a let, which names a query: for a part of formulas write part {shown} = /../;' if is_let
+            raise self.fault('unknown name', self.at, f'{shown} is a let, which names a query: for a part of formulas write part {shown} = /../;'
+                             if name in self.lets
                              else f'there is no part {shown} before it, and %{{..}} uses one: the character itself is \\{{')
         if part.atom.is_over_characters and not self.is_over_characters:
             raise self.fault('unexpected', self.at, 'the part is over characters (u after its closing slash), and so must be the formula')
@@ -528,7 +530,8 @@ class _QueryReader:
         return atom
 
     def formula_reader(self) -> _FormulaReader:
-        return _FormulaReader(self.text, self.at, self.definitions if self.conveniences else None, self.most_open)
+        return _FormulaReader(self.text, self.at, self.definitions if self.conveniences else None, self.most_open,
+                              {let.name for let in self.lets})
 
     def parenthesised(self) -> Expression:
         if not self.sees(b'('):

@@ -115,7 +115,7 @@ class Written(unittest.TestCase):
                                 ('part x = /a/ /b/; /a/', 13, 'one formula'), ('part x = /a/', 12, 'one formula'),
                                 ('part x = /a/ union /b/; /c/', 13, 'one formula'),
                                 ('part x = /a/u; /%{x}/', 16, 'over characters'), ('part x = /a/; /[%{x}]/', 16, 'no class contains'),
-                                ('part x = /%{x}/; /a/', 10, 'no part x')):
+                                ('/ let x = %{x}/', 10, 'no part x'), ('part x = /%{x}/; /a/', 10, 'no part x')):
             with self.assertRaises(rematch.QueryError) as caught:
                 expand.expanded(query)
             self.assertEqual((caught.exception.offset, part in str(caught.exception.hint)), (at, True), query)

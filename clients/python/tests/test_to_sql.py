@@ -76,6 +76,17 @@ class Rows(Folder):
         self.assertEqual(table("select time('12:00', '+1 hour'), time(null, '%H'), time('x', '%H'), time(null, null)", '-e', '/a/', stdin=b''),
                          [('13:00:00', '', '', '')])
 
+    def test_stems_of_hairpins(self):
+        """Drawn records, beside all pairs of their words of three letters."""
+        pick, pairs = random.Random(9), {'A': 'T', 'C': 'G', 'G': 'C', 'T': 'A'}
+        letters = ''.join(pick.choice('ACGT') for _ in range(60))
+        words = [letters[at:at + 3] for at in range(58)]
+        wanted = sum(words[k] == ''.join(map(pairs.get, reversed(words[j]))) for k in range(58) for j in range(k + 3, min(58, k + 8)))
+        self.assertGreater(wanted, 0)
+        self.assertEqual(table('select count(*) from rows where b = other_strand(a)', '-e', '/!a{[ACGT]{3}}[ACGT]{0,4}!b{[ACGT]{3}}/', stdin=letters.encode()),
+                         [(str(wanted),)])
+        self.assertEqual(table("select other_strand('gauC'), other_strand(null)", '-e', '/a/', stdin=b''), [('GAUC', '')])
+
     @needs_speed
     def test_the_time_that_it_takes(self):
         """Two captures compared, times compared, and counts by groups, on some 2,700 rows."""

@@ -19,6 +19,7 @@ from .convert import Command
 from .output import fault_of_output, output
 from .packed import Given
 from .progress import Progress
+from .sequences import other_strand
 from .tables import shown_text
 from .words import SQL_EXAMPLES, Words, read_words
 
@@ -79,7 +80,11 @@ def _add_functions(db: sqlite3.Connection) -> None:
             return seconds_of(shown_text(text) if isinstance(text, bytes) else str(text), str(form))
         return other.execute('select time(?, ?)', (text, form)).fetchone()[0]
 
+    def of_other_strand(text: Any) -> Any:
+        return other_strand(text.upper().encode()).decode() if isinstance(text, str) else None
+
     db.create_function('time', 2, time)
+    db.create_function('other_strand', 1, of_other_strand)
 
 
 def _load_extension(db: sqlite3.Connection) -> None:
