@@ -67,8 +67,8 @@ pub(crate) fn assembled(
     Ok(automaton)
 }
 
-/// Makes the first `count` states starts.
-fn add_starts(automaton: &mut Automaton, count: u32) -> Result<(), OutOfMemory>
+/// Makes the first `count` states starts. The bound of steps is that of `count` states.
+pub fn add_starts(automaton: &mut Automaton, count: u32) -> Result<(), OutOfMemory>
     requires { count ≤ automaton.old.graph.states }
     ensures names { automaton.new.names ≡ automaton.old.names }
     ensures starts { OnOk result ((p : ℕ) → Has automaton.new.graph.starts p ↔ (Has automaton.old.graph.starts p ⊎ (p < count))) }

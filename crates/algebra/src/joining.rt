@@ -16,7 +16,7 @@ use span_core::OutOfMemory;
 use std::alloc::Global;
 
 /// The same automaton but for the order of its ways, which is that of the states that they lead from.
-pub(crate) fn grouped(alloc: Global, a: &Automaton) -> Result<Automaton, OutOfMemory>
+pub fn grouped(alloc: Global, a: &Automaton) -> Result<Automaton, OutOfMemory>
     ensures { IfOk result (IsGroupedOf a.now) }
 {
     let mut copy = a.copy(alloc)?;

@@ -1,8 +1,10 @@
 //! Union, projection and join of automata.
 #![tactic(auto)]
 
+pub use assembly::add_starts;
 pub use effort::Effort;
 pub use fault::JoinFault;
+pub use joining::grouped;
 pub use operations::{join, join_with_cause, join_within, project, union, unite};
 
 mod assembly;

@@ -164,26 +164,6 @@ pub record AreLevelsSo (sets : Sets) (levels : List (List Bool)) (k : ℕ) : Typ
   pub count : length levels ≡ k
   pub each : (i : ℕ) → i < k → IsLevelOf (get_or sets i bytes.empty) (get_or levels i [])
 
-pub levels_more : (sets : Sets) (levels more : List (List Bool)) (k : ℕ) (set : bytes.FinSet nat_cmp) (level : List Bool) → AreLevelsSo sets levels k → k < length sets → set ≡ get_or sets k set →
-    IsLevelOf set level → more ≡ levels ++ level ∷ [] → AreLevelsSo sets more (k + 1)
-levels_more sets levels more k set level so less at is grown = record {
-  count = let long = ap length grown ∙ length-append levels (level ∷ []) in omega (arith, long, so.count);
-  each = λ i within. by i within (cases_lt i k);
-}
-  where
-    by : (i : ℕ) → i < k + 1 → (i < k) ⊎ (k ≤ i) → IsLevelOf (get_or sets i bytes.empty) (get_or more i [])
-    by i within (inl before) =
-        let short : i < length levels = omega (arith, before, so.count) in
-        subst (IsLevelOf (get_or sets i bytes.empty)) (sym (get_or_append_left levels (level ∷ []) [] i short) ∙ ap (λ xs. get_or xs i []) (sym grown)) (so.each i before)
-    by i within (inr last) =
-        let here : k ≡ i = omega (arith, within, last) in
-        let end : length levels ≡ i = omega (arith, here, so.count) in
-        subst (λ s. IsLevelOf s (get_or more i [])) (at ∙ (same_at sets k set bytes.empty less ∙ ap (λ n. get_or sets n bytes.empty) here))
-        (subst (IsLevelOf set) (sym (get_or-append_seam levels level [] []) ∙ (ap (λ n. get_or (levels ++ level ∷ []) n []) end ∙ ap (λ xs. get_or xs i []) (sym grown))) is)
-
-pub levels_all : (sets : Sets) (levels : List (List Bool)) (k : ℕ) → AreLevelsSo sets levels k → length sets ≤ k → k ≤ length sets → AreLevelsOf sets levels
-levels_all sets levels k so all within = record { count = let c = so.count in omega (arith, c, all, within); each = λ i less. so.each i (omega (arith, less, all)) }
-
 -- ---- from stop to stop
 
 pub kept_more : (sets : Sets) (d : List ℕ) (place stop : ℕ) →

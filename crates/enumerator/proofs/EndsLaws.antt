@@ -26,9 +26,6 @@ from_push : (start at : ℕ) (xs : List ℕ) → AreFrom start xs → start ≤ 
 from_push start at [] from le = (le, tt)
 from_push start at (x ∷ xs) from le = (from.0, from_push start at xs from.1 le)
 
-pub taken_begins : (store : List NamedRow) (v m marks start : ℕ) (entry : Entry) → IsWaiting store v (frame m entry) → AreTaken store v m marks start entry [] start entry
-taken_begins store v m marks start entry waits = record { rows_are = λ P. refl; waits = λ some. waits; from = tt; last_is = refl }
-
 -- one cell more
 pub taken_more : (store : List NamedRow) (made : AreMade store) (v m marks start : ℕ) (entry : Entry) (ends : List ℕ) (n last k : ℕ) (r : NamedRow)
     → AreTaken store v m marks start entry (take n ends) last (Row k) → row_at store k ≡ Some r → r.child ≡ Done → r.marks ≡ marks → start ≤ r.at → n < length ends

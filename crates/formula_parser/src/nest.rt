@@ -45,23 +45,14 @@ pub(crate) struct Nest {
     pub(crate) last: Last,
 }
 
-pub(crate) fn put(parts: &mut Parts, part: Formula) -> Result<(), OutOfMemory>
-    ensures { OnOk result (trees_of parts.new ≡ trees_of parts.old ++ tree_of part ∷ []) }
-{
-    match parts.push(part) {
-        Ok(()) => Ok(()),
-        Err(_) => Err(OutOfMemory),
-    }
-}
-
 /// The last thing read becomes a piece.
 fn settle(parts: &mut Parts, last: Last) -> Result<(), OutOfMemory>
     ensures { OnOk result (trees_of parts.new ≡ held (trees_of parts.old) (last_of last)) }
 {
     match last {
         Last::Start => Ok(()),
-        Last::Unit(formula) => put(parts, formula),
-        Last::Repeated(formula) => put(parts, formula),
+        Last::Unit(formula) => parts.add(formula),
+        Last::Repeated(formula) => parts.add(formula),
     }
 }
 
@@ -87,7 +78,7 @@ fn alt_of(arms: Parts, seq: Formula) -> Result<Formula, OutOfMemory>
 {
     if arms.len() > 0 {
         let mut arms = arms;
-        put(&mut arms, seq)?;
+        arms.add(seq)?;
         return Ok(Formula::Alt(arms));
     }
     Ok(seq)
@@ -122,7 +113,7 @@ impl Nest {
         let last = mem::replace(&mut self.last, Last::Start);
         let parts = mem::replace(&mut self.top.parts, Parts::new(alloc));
         let arm = seq_of(parts, last)?;
-        put(&mut self.top.arms, arm)
+        self.top.arms.add(arm)
     }
 
     pub(crate) fn open(

@@ -23,7 +23,7 @@ ghost use Rattle.formula_parser.specs.Step.{goes, step, repeats, braces, opens, 
 use crate::alphabet::Alphabet;
 use crate::class::class_at;
 use crate::fault::FormulaFault;
-use crate::nest::{Last, Nest, Opener, put};
+use crate::nest::{Last, Nest, Opener};
 use crate::sign::sign_len;
 use crate::tokens::{begins_with, bounds_at, escape_at, head_at, tails};
 use crate::{MOST_OPEN, characters};
@@ -311,9 +311,9 @@ fn bytes(alloc: Global, first: u8, others: &[u8]) -> Result<Formula, OutOfMemory
         return Ok(Formula::One(ByteSet::single(first)));
     }
     let mut parts = Parts::new(alloc);
-    put(&mut parts, Formula::One(ByteSet::single(first)))?;
+    parts.add(Formula::One(ByteSet::single(first)))?;
     for b in others {
-        put(&mut parts, Formula::One(ByteSet::single(*b)))?;
+        parts.add(Formula::One(ByteSet::single(*b)))?;
     }
     Ok(Formula::Cat(parts))
 }

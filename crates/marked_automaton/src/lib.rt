@@ -6,6 +6,7 @@ ghost use Rattle.marked_automaton.specs.declared.TheConstants.{MOST_STATES, MOST
 
 pub use automaton::Automaton;
 pub use fault::SizeFault;
+pub use grouping::ways_from;
 pub use way::{Stop, Way};
 
 mod accepting;

@@ -146,9 +146,6 @@ unspoilt_without y states region homes rest is b h = record {
   within = λ from byte. absurd ((out_of homes y.bytes rest is b h).1 byte);
 }
 
-pub unspoilt_aside : (y : Way) (states region : List ℕ) (b : ℕ) → (Has region y.from → ⊥) → (Has states y.from → (y.marks ≡ 0) × Has states y.to) → IsUnspoilt y states region b
-unspoilt_aside y states region b out home = record { inside = λ from byte. out from; within = λ from byte. home from }
-
 -- the bytes lead to each of these
 abbrev pub AllLeadTo : List Way → List ℕ → List ℕ → ByteClass → Type 0
 AllLeadTo ways states some homes = (b : ℕ) → IsTrue (bytes.contains homes b) → (p : ℕ) → Has some p → LeadsTo ways states p b

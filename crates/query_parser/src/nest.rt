@@ -62,22 +62,13 @@ pub(crate) struct Nest {
     pub(crate) minuses: usize,
 }
 
-fn put(parts: &mut Exprs, part: Expr) -> Result<(), OutOfMemory>
-    ensures { OnOk result (exprs_of parts.new ≡ exprs_of parts.old ++ expr_of part ∷ []) }
-{
-    match parts.push(part) {
-        Ok(()) => Ok(()),
-        Err(_) => Err(OutOfMemory),
-    }
-}
-
 /// The conjunction of these units and a last one.
 fn whole_conj(units: Exprs, last: Expr) -> Result<Expr, OutOfMemory>
     ensures { IfOk result (λ e. expr_of e ≡ whole_conj (exprs_of units) (expr_of last)) }
 {
     if units.len() > 0 {
         let mut units = units;
-        put(&mut units, last)?;
+        units.add(last)?;
         return Ok(Expr::Join(units));
     }
     Ok(last)
@@ -102,7 +93,7 @@ fn whole_expr(conjs: Exprs, last: Expr) -> Result<Expr, OutOfMemory>
 {
     if conjs.len() > 0 {
         let mut conjs = conjs;
-        put(&mut conjs, last)?;
+        conjs.add(last)?;
         return Ok(Expr::Union(conjs));
     }
     Ok(last)
@@ -194,7 +185,7 @@ impl Nest {
         ensures { OnOk result (nest_of self.new ≡ next_unit (expr_of unit) (nest_of self.old)) }
     {
         self.last = Last::Before;
-        put(&mut self.top.units, unit)
+        self.top.units.add(unit)
     }
 
     /// A `union` after this unit.
@@ -206,7 +197,7 @@ impl Nest {
         let left = mem::replace(&mut self.top.left, None);
         let conj = whole_conj(units, unit)?;
         let part = less(alloc, left, conj)?;
-        put(&mut self.top.conjs, part)
+        self.top.conjs.add(part)
     }
 
     /// A `minus` after this unit.

@@ -14,7 +14,7 @@ ghost use Rattle.query_printer.specs.FormulaShape.{shape_of};
 ghost use Rattle.query_printer.specs.FormulaLaws.{FormulasSpell, AtomsSpell, AtomsStand};
 ghost use Rattle.query_printer.specs.PrintedFormula.{is_shown, hex_text, byte_text, bytes_below, begins_run, run_end, run_text, runs_text, set_text, sign, exactly_text, at_least_text, between_text, shape, wraps_arm, wraps_part, wraps_operand, wrapped, printed, tied_text, atom_text};
 
-use cell_text::push_bytes;
+use cell_text::{hex_digits, push_bytes};
 use itoa::Buffer;
 use span_core::{ByteSet, Name, OutOfMemory};
 use spanner_model::{Atom, Formula, Parts};
@@ -409,15 +409,4 @@ fn push_hex(byte: u8, out: &mut Vec<u8>) -> Result<(), OutOfMemory>
 {
     push_bytes(b"\\x", out)?;
     push_bytes(&hex_digits(byte), out)
-}
-
-/// The two digits of the byte, in lower case.
-fn hex_digits(byte: u8) -> [u8; 2]
-    ensures { 92 ∷ 120 ∷ result ≡ hex_text byte }
-{
-    let mut digits = [0; 2];
-    match hex::encode_to_slice([byte], &mut digits) {
-        Ok(()) => digits,
-        Err(_) => unreachable!(),
-    }
 }

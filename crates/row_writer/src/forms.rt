@@ -4,7 +4,7 @@ ghost use Rattle.json.specs.Print.{escape};
 ghost use Rattle.row_writer.specs.Escapes.{escaped_form, form_twice};
 ghost use Rattle.row_writer.specs.Lines.{byte_form, hex_form, text_form};
 
-use cell_text::{put_byte, put_bytes};
+use cell_text::{hex_digits, put_byte, put_bytes};
 
 /// Writes the text form of bytes at a position, and says where it ends.
 pub fn put_form(bytes: &[u8], buffer: &mut [u8], at: usize) -> usize
@@ -46,17 +46,6 @@ fn put_hex(byte: u8, buffer: &mut [u8], at: usize) -> usize
     let digits = hex_digits(byte);
     let end = put_bytes(b"\\x", buffer, at);
     put_bytes(&digits, buffer, end)
-}
-
-/// The two digits of a byte, in lower case.
-fn hex_digits(byte: u8) -> [u8; 2]
-    ensures { 92 ∷ 120 ∷ result ≡ hex_form byte }
-{
-    let mut digits = [0; 2];
-    match hex::encode_to_slice([byte], &mut digits) {
-        Ok(()) => digits,
-        Err(_) => unreachable!(),
-    }
 }
 
 /// Writes the text form of bytes as it stands in a JSON string, where its escapes are escaped once more, and says where

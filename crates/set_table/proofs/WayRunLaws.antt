@@ -56,14 +56,6 @@ nothing (y ∷ rest) e = absurd (omega (arith, e))
 abbrev pub AreLaid : List Way → List ByteClass → List Way → Type 0
 AreLaid ways runs rest = (more : List ByteClass) → AreRuns rest more → AreRuns ways (runs ++ more)
 
-pub laid_none : (ways : List Way) (runs : List ByteClass) → runs ≡ [] → AreLaid ways runs ways
-laid_none ways runs none more h = subst (λ (rs : List ByteClass). AreRuns ways (rs ++ more)) (sym none) h
-
-pub laid_more : (ways rest behind : List Way) (runs new : List ByteClass) (s : ByteClass) → AreLaid ways runs rest → Bounds s (take 64 rest) →
-    behind ≡ drop 64 rest → new ≡ runs ++ s ∷ [] → AreLaid ways new behind
-laid_more ways rest behind runs new s h b left is more m =
-    subst (AreRuns ways) (sym (ap (λ (rs : List ByteClass). rs ++ more) is ∙ append_assoc runs (s ∷ []) more)) (h (s ∷ more) (b, subst (λ (ys : List Way). AreRuns ys more) left m))
-
 pub laid_all : (ways rest : List Way) (runs : List ByteClass) → AreLaid ways runs rest → rest ≡ [] → AreRuns ways runs
 laid_all ways rest runs h none = subst (AreRuns ways) (append-nil runs) (h [] none)
 
@@ -112,9 +104,6 @@ pub skip_run : (b : ℕ) (ways rest behind : List Way) (before codes new : List 
     AreRead b ways before behind new
 skip_run b ways rest behind before codes new s h out bounds left is =
     (λ i. is i ++ codes_on b (left i)) ∙ (ap (λ ns. codes ++ ns) (sym (split b rest ∙ ap (λ ns. ns ++ codes_on b (drop 64 rest)) (none_taken s b (take 64 rest) out bounds))) ∙ h)
-
-pub read_all : (b : ℕ) (ways rest : List Way) (before codes : List ℕ) → AreRead b ways before rest codes → rest ≡ [] → codes ≡ before ++ codes_on b ways
-read_all b ways rest before codes h none = sym (append-nil codes) ∙ (ap (λ ys. codes ++ codes_on b ys) (sym none) ∙ h)
 
 -- ---- ways that are gathered by their runs
 

@@ -59,23 +59,6 @@ whole_places d K whole =
     let e : length d ≡ 0 + length d = omega arith in
     ap (λ j. bytes_at 0 d ++ end_at j ∷ []) e ∙ all_places K d 0 (λ j le. (whole j).1 (omega (arith, le)))
 
--- before the first byte
-pub all_none : {A : Automaton} {limit before n : ℕ} {r : SoFar} → HasBegun A limit (before + 1) r n → HasReadAll A limit before [] r n
-all_none {A} {limit} {before} {n} {r} begun = record {
-  first = r;
-  start = n;
-  begun = begun;
-  read = record { read = read_none r.table.graph (come_to r n); ready = begun.ready };
-  at = begun.at;
-}
-
--- it was not begun
-pub refused_none : {A : Automaton} {limit before n : ℕ} {e : TableFault} → IsRefusal (fresh A limit) e → n ≡ before + 1 → IsRefusedFor A limit before [] n e
-refused_none {A} {limit} {before} {n} {e} cause one = record {
-  steps = λ more K whole. omega (arith, one);
-  cause = λ more K whole. start_fault A more K limit e cause;
-}
-
 -- whatever comes then
 pub refused_more : {A : Automaton} {limit before n : ℕ} {e : TableFault} (d piece : List ℕ) → IsRefusedFor A limit before d n e → IsRefusedFor A limit before (d ++ piece) n e
 refused_more {A} {limit} {before} {n} {e} d piece up = record {

@@ -3,6 +3,7 @@ ghost use Rattle.std.specs.Prelude.{◌≡◌, ◌<◌, ◌++◌, [], ◌∷◌,
 ghost use Rattle.spanner_model.specs.ExprView.{expr_of, exprs_of};
 
 use crate::formula::Atom;
+use crate::lists::push_or_give_back;
 use span_core::{OutOfMemory, VarSet};
 use std::alloc::Global;
 
@@ -45,10 +46,7 @@ impl Exprs {
             ≡ (if is_ok result then exprs_of self.old ++ expr_of part ∷ [] else exprs_of self.old) }
         ensures back { IfErr result (λ e. e.0 ≡ part) }
     {
-        match self.list.push(part) {
-            Ok(()) => Ok(()),
-            Err(refused) => Err((refused.value, OutOfMemory)),
-        }
+        push_or_give_back(&mut self.list, part)
     }
 
     /// Adds a part at the end.

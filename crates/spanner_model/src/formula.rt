@@ -2,6 +2,7 @@
 ghost use Rattle.std.specs.Prelude.{◌≡◌, ◌<◌, ◌++◌, [], ◌∷◌, length, is_ok, if◌then◌else◌, IfErr, OnOk, Some, slice_get};
 ghost use Rattle.spanner_model.specs.View.{tree_of, trees_of};
 
+use crate::lists::push_or_give_back;
 use span_core::{ByteSet, Name, OutOfMemory};
 use std::alloc::Global;
 
@@ -43,10 +44,7 @@ impl Parts {
             ≡ (if is_ok result then trees_of self.old ++ tree_of part ∷ [] else trees_of self.old) }
         ensures back { IfErr result (λ e. e.0 ≡ part) }
     {
-        match self.list.push(part) {
-            Ok(()) => Ok(()),
-            Err(refused) => Err((refused.value, OutOfMemory)),
-        }
+        push_or_give_back(&mut self.list, part)
     }
 
     /// Adds a part at the end.

@@ -15,6 +15,7 @@ mod expression;
 mod formula;
 mod gathering;
 pub mod laws;
+mod lists;
 mod query;
 mod tested;
 

@@ -3,6 +3,7 @@ ghost use Rattle.std.specs.Prelude.{◌≡◌, ◌<◌, ◌++◌, [], ◌∷◌,
 ghost use Rattle.spanner_model.specs.ExprView.{expr_of, lets_of};
 
 use crate::expression::Expr;
+use crate::lists::push_or_give_back;
 use span_core::{Name, OutOfMemory};
 use std::alloc::Global;
 
@@ -36,10 +37,7 @@ impl Lets {
             ≡ (if is_ok result then lets_of self.old ++ (part.0, expr_of part.1) ∷ [] else lets_of self.old) }
         ensures back { IfErr result (λ e. e.0 ≡ part) }
     {
-        match self.list.push(part) {
-            Ok(()) => Ok(()),
-            Err(refused) => Err((refused.value, OutOfMemory)),
-        }
+        push_or_give_back(&mut self.list, part)
     }
 
     /// How many `let`s there are.

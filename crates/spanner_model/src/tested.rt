@@ -2,6 +2,7 @@
 ghost use Rattle.std.specs.Prelude.{◌≡◌, ◌<◌, [], ◌∷◌, ◌++◌, length, slice_get, Some, OnOk, OnErr, IfErr};
 
 use crate::Query;
+use crate::lists::push_or_give_back;
 use span_core::{Name, OutOfMemory};
 use std::alloc::Global;
 use std::marker::Model;
@@ -48,10 +49,7 @@ impl Asks {
         ensures kept { OnErr result (self.new ≡ self.old) }
         ensures back { IfErr result (λ e. e.0 ≡ part) }
     {
-        match self.list.push(part) {
-            Ok(()) => Ok(()),
-            Err(refused) => Err((refused.value, OutOfMemory)),
-        }
+        push_or_give_back(&mut self.list, part)
     }
 
     /// The number of tests.

@@ -17,8 +17,8 @@ loop-state-preserved c =
     let xs = c.loop-state.taken.items in
     let i = c.loop-state.state-index in
     let z = get_or members i 0 in
-    let ways = c.from_state-ways.result.now in
-    let here : ways ≡ f z = c.from_state-ways.ensures ∙ ap (λ ws. ways_from ws z) c.with_marks-row.ensures in
+    let ways = c.ways_from-ways.result.now in
+    let here : ways ≡ f z = c.ways_from-ways.ensures ∙ ap (λ ws. ways_from ws z) c.with_marks-row.ensures in
     let front : take (i + 1) members ≡ take i members ++ z ∷ [] = take_more members i 0 c.loop-state-test.true in
     let all : flat_map f (take i members) ++ ways ≡ flat_map f (take (i + 1) members) =
     ap (λ ws. flat_map f (take i members) ++ ws) here ∙ (flat_map_more f [] (take i members) z ∙ ap (flat_map f) (sym front)) in
