@@ -1,5 +1,5 @@
 //! Serving: a line with a reply for each line with a request.
-ghost use Rattle.std.specs.Prelude.{◌≡◌, ◌⊎◌, codes};
+ghost use Rattle.std.specs.Prelude.{◌≡◌, ◌⊎◌, [], codes};
 ghost use Rattle.note_texts.specs.Notes.{number_between, note_bytes};
 ghost use Rattle.note_texts.specs.Outcomes.{Is, IsOutOfMemory};
 ghost use Rattle.rm_outside.specs.Change.{change};
@@ -9,6 +9,7 @@ ghost use Rattle.session_server.specs.Serve.{Serves, ServesAll, ServesLines};
 
 use crate::MOST_LINE_BYTES;
 use crate::answering::answer;
+use crate::session::Opened;
 use note_texts::{FixedNote, Note, Outcome};
 use rm_outside::{LineFault, Sink, Source, Status};
 use span_core::{OutOfMemory, Steps};
@@ -55,6 +56,25 @@ fn serve_lines<R: Source, O: Sink, J: Judge, L: Ledger>(
         result.status (note_bytes result.note) }
 {
     let mut sessions = Vec::new(alloc);
+    serve_on(most, tests, &mut sessions, source, out, steps)
+}
+
+/// Serves the lines by sessions of which none is open yet, and leaves them to its caller, who lets them go in one place.
+fn serve_on<R: Source, O: Sink, J: Judge, L: Ledger>(
+    most: u64,
+    tests: &Tests<J>,
+    sessions: &mut Vec<Opened>,
+    source: &mut R,
+    out: &mut O,
+    steps: &mut Steps<L>,
+) -> Outcome
+    requires none { sessions.old.items ≡ [] }
+    ensures serves { ServesLines (known tests.now J.judges) most
+        (change (R.told source.old) (R.told source.new))
+        (change (O.told out.old) (O.told out.new))
+        result.status (note_bytes result.note) }
+{
+    let alloc = *sessions.allocator();
     let mut line = Vec::new(alloc);
     let mut served = 0u64;
     loop {
@@ -72,7 +92,7 @@ fn serve_lines<R: Source, O: Sink, J: Judge, L: Ledger>(
         if served >= most {
             return Outcome::fixed(Status::Long, FixedNote::TooManyRequests);
         }
-        let reply = match answer(alloc, tests, &mut sessions, &line, steps) {
+        let reply = match answer(alloc, tests, sessions, &line, steps) {
             Ok(reply) => reply,
             Err(OutOfMemory) => return Outcome::out_of_memory(),
         };

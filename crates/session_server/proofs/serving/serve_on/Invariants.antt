@@ -1,7 +1,7 @@
 use Rattle.std.proofs.Common.{◌≤◌, ◌-◌}
 use Rattle.spanner_model.specs.Passing.{known}
 use Rattle.session_server.proofs.Lines.{ServedSoFar}
-use Rattle.session_server.proofs.serving.serve_lines.Given as goal
+use Rattle.session_server.proofs.serving.serve_on.Given as goal
 
 abbrev pub invariant-loop-line : goal.invariant-loop-line
 invariant-loop-line g l = record {

@@ -2,13 +2,13 @@ use Rattle.std.proofs.Common.{rules, arith, inl, inr}
 use Rattle.spanner_model.specs.Passing.{known}
 use Rattle.session_server.proofs.Lines.{NextReplied, ends_failed, ends_long, ends_many, ends_memory, ends_served, ends_write, next_replied, none_served, one_served}
 use Rattle.rm_outside.proofs.FaultLaws.{rose_from}
-use Rattle.session_server.proofs.serving.serve_lines.Goals.{After-deref-in-loop-line}
-use Rattle.session_server.proofs.serving.serve_lines.Given.{Over}
-use Rattle.session_server.proofs.serving.serve_lines.Goals as goal
+use Rattle.session_server.proofs.serving.serve_on.Goals.{After-deref-in-loop-line}
+use Rattle.session_server.proofs.serving.serve_on.Given.{Over}
+use Rattle.session_server.proofs.serving.serve_on.Goals as goal
 
 pub loop-line-init : goal.loop-line-init
 loop-line-init g c = record {
-  so_far = rw c.new-sessions.ensures.items none_served;
+  so_far = rw c.requires.none none_served;
   faults = omega arith;
   puts = omega arith;
 }
