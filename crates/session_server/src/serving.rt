@@ -8,8 +8,7 @@ ghost use Rattle.session_server.specs.declared.TheConstants.{MOST_LINE_BYTES};
 ghost use Rattle.session_server.specs.Serve.{Serves, ServesAll, ServesLines};
 
 use crate::MOST_LINE_BYTES;
-use crate::answering::answer;
-use crate::session::Opened;
+use crate::answering::{Opened, answer};
 use note_texts::{FixedNote, Note, Outcome};
 use rm_outside::{LineFault, Sink, Source, Status};
 use span_core::{OutOfMemory, Steps};
