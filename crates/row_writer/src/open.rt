@@ -1,11 +1,13 @@
 //! A line of which one number is open.
 //!
 //! Where rows differ in the end of one span alone, the bytes before that number and behind it stay. They are kept once, and a
-//! line is then two copies of a fixed length, and the digits of a number.
+//! line is then two copies of a fixed length, and the digits of a number. Of many numbers those with the same tens are
+//! copies of one line.
 ghost use Rattle.std.specs.Prelude.{◌≡◌, ◌+◌, ◌*◌, ◌≤◌, ◌++◌, take, length, IfSome};
 ghost use Rattle.std.specs.List.{flat_map};
 ghost use Rattle.row_writer.specs.Open.{open_text, open_with};
 
+use crate::tens::Tens;
 use cell_text::{put_bytes, put_number};
 use std::marker::Model;
 
@@ -74,10 +76,19 @@ impl OpenLine {
         ensures end { result ≤ at + 122 * length numbers.now }
         ensures text { take result buffer.new ≡ take at buffer.old ++ flat_map (open_text self.now) numbers.now }
     {
+        let mut tens = Tens::none();
         let mut end = at;
         for number in numbers {
-            end = self.put(*number, buffer, end);
+            end = tens.put(self, *number, buffer, end);
         }
         end
+    }
+
+    /// How many bytes are behind the number.
+    #[inline(always)]
+    pub(crate) fn behind(&self) -> usize
+        ensures { result ≡ length self.now.back }
+    {
+        self.back_len
     }
 }
