@@ -170,14 +170,14 @@ class Command:
         if part.piece is None or part.piece.start == 0:
             for doubt in doubts_of(found.head, self.query, is_sequence=self.given.form in ('bed', 'gff', 'fasta')):
                 self.tell(f'{found.name}: {doubt}')
-            self.tell_of_lines(found)
+            self.tell_of_lines(found.name, self.has_anchors and has_several_lines(found.data))
         return found
 
-    def tell_of_lines(self, found: Given) -> None:
+    def tell_of_lines(self, name: str, are_several: bool) -> None:
         """Tells once that anchors are of the document, where it has several lines."""
-        if self.has_anchors and has_several_lines(found.data):
+        if self.has_anchors and are_several:
             self.has_anchors = False
-            self.tell(f'{found.name}: it has several lines, and ^ and $ are the start and the end of the whole document: for lines write m after the '
+            self.tell(f'{name}: it has several lines, and ^ and $ are the start and the end of the whole document: for lines write m after the '
                       'closing slash')
 
     def refuse_long(self) -> None:
