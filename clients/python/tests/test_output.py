@@ -34,6 +34,35 @@ class Files(Folder):
             self.assertEqual((status, out, 'is read, so it cannot be the output too' in told), (2, '', True), (words, told))
             self.assertEqual((self.read(document), self.read(query)), (b'aa\n', b'/!x{a}/'), words)
 
+    def test_what_is_read_beside_documents_is_no_output(self):
+        document, listed = self.file('d', b'aa\n'), self.file('l', os.path.join(self.folder, 'd').encode() + b'\n')
+        words, state = self.file('w', b'aa\n'), self.file('s', b'{}')
+        for asked_for, out in ((('csv', '--words', words, '-o', words, document), words), (('csv', *QUERY, '--files-from', listed, '-o', listed), listed),
+                               (('csv', *QUERY, '--state', state, '-o', state, document), state)):
+            before = self.read(out)
+            status, _, told = asked(*asked_for)
+            self.assertEqual((status, 'is read, so it cannot be the output too' in told, self.read(out)), (2, True, before), (asked_for, told))
+
+    def test_standard_input_is_no_output(self):
+        document = self.file('d', b'aa\n')
+        for more in (('csv', *QUERY), ('csv', *QUERY, '-'), ('count', '-q', '-', '/dev/null'), ('sql', 'select 1', *QUERY), ('ann', *QUERY)):
+            with open(document, 'rb') as file:
+                run = subprocess.run([sys.executable, os.path.join(CLIENTS, 'rematch-to'), *more, '-o', document], stdin=file, stderr=subprocess.PIPE,
+                                     env=dict(os.environ, PYTHONPATH=PYTHON), check=False)
+            self.assertEqual((run.returncode, b'is read, so it cannot be the output too' in run.stderr), (2, True), (more, run.stderr))
+            self.assertEqual(self.read(document), b'aa\n', more)
+
+    def test_a_folder_is_for_annotations_alone(self):
+        document, folder = self.file('d', b'aa\n'), os.path.join(self.folder, 'f')
+        os.mkdir(folder)
+        for form in ('csv', 'html', 'follow', 'count'):
+            status, out, told = asked(form, *QUERY, '-o', folder, document)
+            self.assertEqual((status, out, 'is a folder' in told), (2, '', True), (form, told))
+        self.assertEqual(asked('ann', *QUERY, '-o', folder, document), (0, '', ''))
+        self.assertEqual(self.read(os.path.join(folder, 'd.ann')), b'T1\tx 0 1\ta\nT2\tx 0 2\taa\nT3\tx 1 2\ta\n')
+        status, _, told = asked('csv', *QUERY, '-o', os.path.join(self.folder, 'no', 'out'), document)
+        self.assertEqual((status, os.path.join('no', 'out') + ': No such file' in told), (5, True), told)
+
     def test_what_was_there_stays_where_there_is_a_fault(self):
         document, out = self.file('d', b'aa\n'), self.file('o', b'old\n')
         for words, status in ((('csv', '-e', '/!x{a/', '-o', out, document), 3), (('csv', *QUERY, '-o', out, os.path.join(self.folder, 'none')), 5),

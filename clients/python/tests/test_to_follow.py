@@ -87,6 +87,18 @@ class Followed(Folder):
             self.assertIn(part, asked(*words)[2])
             self.assertEqual(asked(*words, '--silent')[2], '')
 
+    def test_what_is_seldom_meant(self):
+        """Anchors of the document and open ends are told once, with --state too."""
+        path, several, apart = self.file('d', b'a1\na2\nb 12 c\nb 34 c\n'), 'it has several lines', 'end apart, as'
+        for query, part in (('/^!x{a.}/', several), ('/!x{a.}$/', several), ('/^!x{a.}/m', None), ('/ !x{[0-9]+}.*/', apart), ('/ !x{[0-9]+} /', None)):
+            for words in (('follow', '--from-start', '--idle', '0'), ('csv', '--state', os.path.join(self.folder, 'state'))):
+                told = asked(*words, '-e', query, path, is_watched=False)[2]
+                self.assertEqual([line for line in told.splitlines() if part is None or part not in line], [], (words, query))
+                self.assertEqual(len(told.splitlines()), int(part is not None), (words, query))
+                self.assertEqual(asked(*words, '-e', query, '--silent', path, is_watched=False)[2], '')
+                if words[0] == 'csv':
+                    os.unlink(words[2])
+
     def test_refusals(self):
         path = self.file('d', b'')
         for words, status, part in (((path, path), 2, 'one file'), ((path, '--characters'), 2, 'bytes'),

@@ -186,14 +186,14 @@ class Command:
         if part.piece is None or part.piece.start == 0:
             for doubt in doubts_of(found.head, self.query, is_sequence=self.given.form in ('bed', 'gff', 'fasta')):
                 self.tell(f'{found.name}: {doubt}')
-            self.tell_of_lines(found)
+            self.tell_of_lines(found.name, self.has_anchors and has_several_lines(found.data))
         return found
 
-    def tell_of_lines(self, found: Given) -> None:
+    def tell_of_lines(self, name: str, are_several: bool) -> None:
         """Tells once that anchors are of the document, where it has several lines."""
-        if self.has_anchors and has_several_lines(found.data):
+        if self.has_anchors and are_several:
             self.has_anchors = False
-            self.tell(f'{found.name}: it has several lines, and ^ and $ are the start and the end of the whole document: for lines write m after the '
+            self.tell(f'{name}: it has several lines, and ^ and $ are the start and the end of the whole document: for lines write m after the '
                       'closing slash')
 
     def refuse_long(self) -> None:
@@ -306,8 +306,7 @@ class Command:
 
     def ann(self) -> None:
         from .tables import write_annotations
-        are_several = len(self.names) > 1
-        paths = annotation_names(self.names, str(self.given.out)) if are_several else [None]
+        paths = annotation_names(self.names, self.given.out) if is_folder(self.given.out) else [None]
         for name, path in zip(self.names, paths):
             with self.guarded(name):
                 found = self.opened(Part(name))
@@ -451,8 +450,7 @@ def main(words: Optional[Iterable[str]] = None) -> int:
         with ExitStack() as stack:
             command = Command(given, sys.stdout, stack.enter_context(Progress()))
             stack.callback(command.close)
-            to_file = given.out is not None and not os.path.isdir(given.out)
-            command.out = stack.enter_context(output(given.out if to_file else None, comes_at_once=given.form == 'follow'))
+            command.out = stack.enter_context(output(None if is_folder(given.out) else given.out, comes_at_once=given.form == 'follow'))
             command.run()
         for act in command.afterwards:
             act()
@@ -461,22 +459,29 @@ def main(words: Optional[Iterable[str]] = None) -> int:
     return run_told(run) or (found[0] if found else 0)
 
 
+def is_folder(name: Optional[str]) -> bool:
+    """Whether an output of this name is a folder, which takes the annotations of each document."""
+    return name is not None and os.path.isdir(name)
+
+
 def _refuse_output(given: Words) -> None:
     """Ends the command where its output would be lost, or would be written over what is read."""
-    are_several = given.form == 'ann' and len(given.documents) > 1
-    if are_several and not (given.out and os.path.isdir(given.out)):
+    names = [given.out] if given.out else []
+    if given.form == 'ann' and is_folder(given.out):
+        names = annotation_names(given.documents or ['-'], given.out)
+        if len(set(names)) < len(set(map(os.path.normpath, given.documents))):
+            refuse('two documents would have annotations of one name: write them into two folders')
+    elif given.form == 'ann' and len(given.documents) > 1:
         refuse('ann of several documents needs -o FOLDER')
-    names = annotation_names(given.documents, str(given.out)) if are_several else [given.out] if given.out else []
-    if len(set(names)) < len(set(map(os.path.normpath, given.documents))) and are_several:
-        refuse('two documents would have annotations of one name: write them into two folders')
+    documents = given.documents or ([] if given.form == 'check' else ['-'])
     for name in names:
-        fault = None if os.path.isdir(name) else fault_of_output(name, [*given.documents, given.name])
+        fault = fault_of_output(name, [*documents, given.name, given.list, given.listed, given.state])
         if fault is not None:
             refuse(fault)
 
 
-def annotation_names(documents: List[str], folder: str) -> List[str]:
-    """Where the annotations of several documents are written: below the folder, by their base names, or where two agree by more of their paths.
+def annotation_names(documents: List[str], folder: Optional[str]) -> List[str]:
+    """Where the annotations of documents are written: below the folder, by their base names, or where two agree by more of their paths.
 
     >>> annotation_names(['a/x.txt', 'b/x.txt', 'b/y.txt'], 'out')
     ['out/a-x.txt.ann', 'out/b-x.txt.ann', 'out/y.txt.ann']
@@ -485,4 +490,4 @@ def annotation_names(documents: List[str], folder: str) -> List[str]:
     names = [parts[-1:] for parts in paths]
     for depth in range(2, max(map(len, paths)) + 1):
         names = [parts[-depth:] if names.count(name) > 1 else name for parts, name in zip(paths, names)]
-    return [os.path.join(folder, '-'.join(name) + '.ann') for name in names]
+    return [os.path.join(folder or '', '-'.join(name) + '.ann') for name in names]

@@ -169,7 +169,7 @@ def main(words: Sequence[str]) -> int:
     """Runs the command; the status is 0 where nothing is lost or gained and 1 where something is, 5 where one of several documents could not
     be read, and otherwise that of the program for its faults, or 2 for words that are refused."""
     given = _parser().parse_intermixed_args(list(words))
-    fault = fault_of_output(given.out, [*given.documents, given.old, given.new])
+    fault = fault_of_output(given.out, [*(given.documents or ['-']), given.old, given.new])
     if fault is not None:
         _parser().error(fault)
     found: List[Tuple[bool, bool]] = []

@@ -3,12 +3,15 @@ from __future__ import annotations
 
 import os
 import sys
+from itertools import chain, islice
 from typing import TYPE_CHECKING, Iterator, List, Optional, Union
 
 from ..documents import Document, packed_by
 from ..follow import File, Followed, Step, lines_before, steps, stream
 from ..query import Query
+from .doubts import doubts_of, has_several_lines
 from .packed import Given
+from .row_doubts import MOST_SEEN
 
 if TYPE_CHECKING:
     from .convert import Command
@@ -30,7 +33,6 @@ def _told(news: Iterator[Union[bytes, str]], name: str) -> Iterator[Union[bytes,
 
 def _doubts(file: File, query: Query) -> List[str]:
     """What may hide rows of a file, from how it begins; nothing of a pipe."""
-    from .doubts import doubts_of
     try:
         head = os.pread(file.file.fileno(), _HEAD, 0)
     except OSError:
@@ -66,7 +68,7 @@ def follow(command: 'Command') -> None:
             if step is None:
                 command.out.write('' if command.given.no_head else table.head())
             else:
-                command.out.writelines(lines_of(table, step))
+                command.out.writelines(lines_of(command, table, step))
             command.out.flush()
     finally:
         if isinstance(state.query, SmallDocuments):
@@ -93,9 +95,14 @@ def _steps(command: 'Command', state: Followed) -> Iterator[Optional[Step]]:
         file.close()
 
 
-def lines_of(table: 'Table', step: Step) -> Iterator[str]:
-    """A line of the table for each row of a step."""
+def lines_of(command: 'Command', table: 'Table', step: Step) -> Iterator[str]:
+    """A line of the table for each row of a step; what is seldom meant is told once."""
     window, rows = step
     at = window.begins
+    given = Given(str(window.name), Document(window.data))
+    command.tell_of_lines(given.name, window.line > 1 or has_several_lines(window.data))
     places = (tuple([place if place < 0 else place - at for place in row]) for row in rows)
-    return table.lines(Given(str(window.name), Document(window.data)), places, window.line, at)
+    seen = list(islice(places, MOST_SEEN))
+    for doubt in command.doubts_of_rows(given, seen):
+        command.tell(doubt)
+    return table.lines(given, chain(seen, places), window.line, at)

@@ -41,18 +41,18 @@ class Screen:
 
 
 def _input_at(name: str, inputs: Sequence[Optional[str]]) -> Optional[str]:
-    """The first of these names that is the same file as the output of that name, which would be lost; None where none is."""
+    """The first of these names that is the same file as the output of that name, which would be lost; None where none is. ``-`` names standard input."""
     try:
         out = os.stat(name)
     except OSError:
         return None
     for given in inputs:
         try:
-            found = None if given is None else os.stat(given)
+            found = None if given is None else os.fstat(0) if given == '-' else os.stat(given)
         except OSError:
             continue
         if found is not None and stat.S_ISREG(found.st_mode) and (found.st_dev, found.st_ino) == (out.st_dev, out.st_ino):
-            return given
+            return name if given == '-' else given
     return None
 
 
@@ -128,6 +128,8 @@ def written(name: str) -> Iterator[TextIO]:
         with _opened(name) as file:
             yield file
         return
+    except OSError as fault:
+        raise OSError(fault.errno, fault.strerror, name) from None  # and not the name beside it
     try:
         with _opened(number) as file:
             yield file

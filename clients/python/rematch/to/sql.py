@@ -299,7 +299,8 @@ def _read_words(words: Sequence[str]) -> argparse.Namespace:
         if name.lower() in names:
             parser.error(f'there are two tables {name}: write TABLE=NAME for one of them')
         names[name.lower()] = name
-    fault = fault_of_output(given.out, [*given.documents, *(source.text for source in given.sources if source.is_file), *(name for _, name in tables)])
+    files = [*(given.documents or ['-']), *(source.text for source in given.sources if source.is_file), *(name for _, name in tables)]
+    fault = fault_of_output(given.out, files)
     if fault is not None:
         parser.error(fault)
     return given

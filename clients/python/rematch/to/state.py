@@ -195,7 +195,7 @@ def _lines_since(command: 'Command', table: 'Table', places: Dict[str, Place]) -
         with command.guarded(name):
             since = Since(command.query, name, places.get(os.path.abspath(name)))
             for step in since.steps():
-                yield from lines_of(table, step)
+                yield from lines_of(command, table, step)
             places[os.path.abspath(name)] = since.place
 
 
