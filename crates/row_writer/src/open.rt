@@ -76,11 +76,35 @@ impl OpenLine {
         ensures end { result ≤ at + 122 * length numbers.now }
         ensures text { take result buffer.new ≡ take at buffer.old ++ flat_map (open_text self.now) numbers.now }
     {
-        let mut tens = Tens::none();
+        let mut tens = Tens::of(self);
         let mut end = at;
         for number in numbers {
             end = tens.put(self, *number, buffer, end);
         }
+        end
+    }
+
+    /// Writes what is before the number to the front of some bytes.
+    #[inline(always)]
+    pub(crate) fn put_front(&self, bytes: &mut [u8])
+        requires { 128 ≤ length bytes.old }
+        ensures { take (length self.now.front) bytes.new ≡ self.now.front }
+    {
+        let _front = put_bytes(&self.front, bytes, 0);
+    }
+
+    /// Writes a number and what is behind it, where what is before it is written, and says where the number ends.
+    #[inline(always)]
+    pub(crate) fn put_rest(&self, number: u32, bytes: &mut [u8]) -> usize
+        requires room { 128 ≤ length bytes.old }
+        requires front { take (length self.now.front) bytes.old ≡ self.now.front }
+        ensures front { take (length self.now.front) bytes.new ≡ self.now.front }
+        ensures some { 1 ≤ result }
+        ensures end { result + length self.now.back ≤ 122 }
+        ensures text { take (result + length self.now.back) bytes.new ≡ open_text self.now number }
+    {
+        let end = put_number(number, bytes, self.front_len);
+        let _back = put_bytes(&self.back, bytes, end);
         end
     }
 
