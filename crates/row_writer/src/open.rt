@@ -3,9 +3,10 @@
 //! Where rows differ in the end of one span alone, the bytes before that number and behind it stay. They are kept once, and a
 //! line is then two copies of a fixed length, and the digits of a number. Of many numbers those with the same tens are
 //! copies of one line.
-ghost use Rattle.std.specs.Prelude.{◌≡◌, ◌+◌, ◌*◌, ◌≤◌, ◌++◌, take, length, IfSome};
+ghost use Rattle.std.specs.Prelude.{◌≡◌, ◌+◌, ◌*◌, ◌≤◌, ◌++◌, take, drop, length, IfSome};
 ghost use Rattle.std.specs.List.{flat_map};
 ghost use Rattle.row_writer.specs.Open.{open_text, open_with};
+ghost use Rattle.row_writer.specs.declared.open.TheConstants.{BACK_BYTES, FRONT_BYTES};
 
 use crate::tens::Tens;
 use cell_text::{put_bytes, put_number};
@@ -49,6 +50,35 @@ impl OpenLine {
         let mut back = [0; BACK_BYTES];
         let front_len = put_bytes(before, &mut front, 0);
         let back_len = put_bytes(behind, &mut back, 0);
+        Some(OpenLine {
+            front,
+            back,
+            front_len,
+            back_len,
+        })
+    }
+
+    /// The line with the bytes of a buffer from two positions on; None where one side has too many. Both are copied in a fixed
+    /// length, with bytes behind them.
+    #[inline(always)]
+    pub(crate) fn taken(
+        buffer: &[u8],
+        from: usize,
+        front_len: usize,
+        behind: usize,
+        back_len: usize,
+    ) -> Option<OpenLine>
+        requires front { from + FRONT_BYTES ≤ length buffer.now }
+        requires back { behind + BACK_BYTES ≤ length buffer.now }
+        ensures { IfSome result (λ o. o ≡ open_with (take front_len (drop from buffer.now)) (take back_len (drop behind buffer.now))) }
+    {
+        if front_len > FRONT_BYTES || back_len > BACK_BYTES {
+            return None;
+        }
+        let mut front = [0; FRONT_BYTES];
+        let mut back = [0; BACK_BYTES];
+        front.copy_from_slice(&buffer[from..from + FRONT_BYTES]);
+        back.copy_from_slice(&buffer[behind..behind + BACK_BYTES]);
         Some(OpenLine {
             front,
             back,
