@@ -1,13 +1,12 @@
 -- Lines with numbers that differ in the last digit.
-use Rattle.std.proofs.Common.{◌≡◌, ℕ, zero, suc, ◌+◌, ◌-◌, ◌/◌, ◌%◌, ◌^◌, ◌<◌, ◌≤◌, List, [], ◌∷◌, ◌++◌, length, take, drop, set, inl, inr, refl, sym, ap, ◌∙◌, append_assoc, arith, length-append}
+use Rattle.std.proofs.Common.{◌≡◌, ℕ, zero, suc, ◌+◌, ◌-◌, ◌/◌, ◌%◌, ◌^◌, ◌<◌, ◌≤◌, List, [], ◌∷◌, ◌++◌, length, take, set, inl, inr, refl, sym, ap, ◌∙◌, append_assoc, arith, length-append}
 use Rattle.std.specs.Fmt.{decimal}
 use Rattle.std.proofs.Math.Seq.{set-append_seam, take-set-lt}
 use Rattle.std.proofs.lemmas.Bool.{cases_lt}
-use Rattle.std.proofs.lemmas.Fmt.{decimal_digit, decimal_nonempty, decimal_step}
+use Rattle.std.proofs.lemmas.Fmt.{decimal_digit, decimal_step}
 use Rattle.std.proofs.lemmas.List.{length-take-le, take-take}
 use Rattle.row_writer.specs.Open.{AreTens, Open, open_text}
-use Rattle.row_writer.proofs.Keeping.{front_written, rises}
-use Rattle.row_writer.proofs.LineParts.{piece_of}
+use Rattle.row_writer.proofs.Keeping.{front_written}
 
 -- the digits of a number but the last one
 abbrev but_last : ℕ → List ℕ
@@ -40,8 +39,8 @@ digit_set front back bytes last c len digit is inside place =
 
 -- the line with a number is kept for those with the same tens
 pub tens_kept : (o : Open) (m first digit len : ℕ) (bytes : List ℕ) → m < 2 ^ 32 → first ≡ m - m % 10 → take len bytes ≡ open_text o m → len ≤ length bytes → len ≤ 122
-    → digit + 1 + length o.back ≡ len → AreTens o first digit len bytes
-tens_kept o m first digit len bytes small least is inside few place = record { within = omega (arith, place); few = few; lines = lines }
+    → take (length o.front) bytes ≡ o.front → digit + 1 + length o.back ≡ len → AreTens o first digit len bytes
+tens_kept o m first digit len bytes small least is inside few front place = record { within = omega (arith, place); few = few; before = front; lines = lines }
   where
     lines : (n : ℕ) → n < 2 ^ 32 → first ≤ n → n < first + 10 → take len (set bytes digit (48 + (n - first))) ≡ open_text o n
     lines n fits low high =
@@ -57,21 +56,8 @@ pub part_copied : (at len count end : ℕ) (b0 b1 bytes : List ℕ) → at ≤ l
 part_copied at len count end b0 b1 bytes inside few below is =
     front_written at len end b0 b1 (take count bytes) (take len bytes) inside below is (take-take len count bytes few)
 
--- a line that is written has a digit before what stands behind its number
-pub digit_there : (at end : ℕ) (b0 b1 : List ℕ) (o : Open) (n : ℕ) → n < 2 ^ 32 → at ≤ length b0 → end ≤ length b1 → take end b1 ≡ take at b0 ++ open_text o n → at + (length o.back + 1) ≤ end
-digit_there at end b0 b1 o n small inside below is =
-    let long : end ≡ length (take at b0 ++ open_text o n) = sym (length-take-le end b1 below) ∙ ap (λ (xs : List ℕ). length xs) is in
-    omega (
-      arith,
-      long,
-      length-append (take at b0) (open_text o n),
-      length-take-le at b0 inside,
-      length-append o.front (decimal n ++ o.back),
-      length-append (decimal n) o.back,
-      decimal_nonempty n (omega (arith, small)),
-    )
-
--- a line that was written is taken out of the buffer
-pub line_taken : (at end count : ℕ) (b0 b1 bytes text : List ℕ) → at ≤ length b0 → take end b1 ≡ take at b0 ++ text → end - at ≤ count → bytes ≡ take count (drop at b1) → take (end - at) bytes ≡ text
-line_taken at end count b0 b1 bytes text inside is few same =
-    ap (take (end - at)) same ∙ take-take (end - at) count (drop at b1) few ∙ piece_of at end b0 b1 text inside (rises b0 b1 text is inside) is
+-- the number of a line is written, and what stands behind it
+pub rest_written : (f l end r : ℕ) (b0 b1 b2 digits back : List ℕ) {front rest : List ℕ} → take f b0 ≡ front → take end b1 ≡ take f b0 ++ digits → take r b2 ≡ take end b1 ++ back
+    → end ≤ length b1 → end + l ≤ r → take l back ≡ rest → take (end + l) b2 ≡ front ++ (digits ++ rest)
+rest_written f l end r b0 b1 b2 digits back {front} {rest} one two three inside below is =
+    front_written end l r b1 b2 back rest inside below three is ∙ ap (λ (xs : List ℕ). xs ++ rest) (two ∙ ap (λ (xs : List ℕ). xs ++ digits) one) ∙ append_assoc front digits rest

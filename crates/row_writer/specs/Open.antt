@@ -21,6 +21,7 @@ open_text o number = o.front ++ (decimal number ++ o.back)
 pub record AreTens (o : Open) (first digit len : ℕ) (bytes : List ℕ) : Type 0 where
   pub within : digit < len
   pub few : len ≤ 122
+  pub before : take (length o.front) bytes ≡ o.front
   pub lines : (number : ℕ) → number < 2 ^ 32 → first ≤ number → number < first + 10 → take len (set bytes digit (48 + (number - first))) ≡ open_text o number
 
 -- for each end of the span at this place the line of the row is that with the number of the end

@@ -23,12 +23,15 @@ pub(crate) struct Tens {
 }
 
 impl Tens {
-    /// No number is as high as this one's first.
-    pub(crate) fn none() -> Tens
-        ensures { (o : Open) → AreTens o result.first result.digit result.len result.bytes }
+    /// The open line without a number: none is as high as `first`.
+    #[inline(always)]
+    pub(crate) fn of(line: &OpenLine) -> Tens
+        ensures { AreTens line.now result.first result.digit result.len result.bytes }
     {
+        let mut bytes = [0; LINE_BYTES];
+        line.put_front(&mut bytes);
         Tens {
-            bytes: [0; LINE_BYTES],
+            bytes,
             first: u64::MAX,
             digit: 0,
             len: 1,
@@ -50,11 +53,26 @@ impl Tens {
         ensures end { result ≤ at + 122 }
         ensures text { take result buffer.new ≡ take at buffer.old ++ open_text line.now number }
     {
+        self.turn(line, number);
+        self.put_digit(u64::from(number), buffer, at)
+    }
+
+    /// Keeps the open line with a number, unless that with its tens is kept.
+    #[inline(always)]
+    fn turn(&mut self, line: &OpenLine, number: u32)
+        requires { AreTens line.now self.old.first self.old.digit self.old.len self.old.bytes }
+        ensures tens { AreTens line.now self.new.first self.new.digit self.new.len self.new.bytes }
+        ensures low { self.new.first ≤ number }
+        ensures high { number < self.new.first + 10 }
+    {
         let whole = u64::from(number);
         if self.first <= whole && whole - self.first < 10 {
-            return self.put_digit(whole, buffer, at);
+            return;
         }
-        self.renew(line, number, buffer, at)
+        let end = line.put_rest(number, &mut self.bytes);
+        self.first = u64::from(number - number % 10);
+        self.digit = end - 1;
+        self.len = end + line.behind();
     }
 
     /// Writes the line that is kept with another last digit.
@@ -71,22 +89,6 @@ impl Tens {
     {
         let end = put_copy(&self.bytes, self.len, buffer, at);
         buffer[at + self.digit] = b'0' + (number - self.first) as u8;
-        end
-    }
-
-    /// Writes the open line with a number, and keeps it.
-    fn renew(&mut self, line: &OpenLine, number: u32, buffer: &mut [u8], at: usize) -> usize
-        requires { at + 128 ≤ length buffer.old }
-        ensures tens { AreTens line.now self.new.first self.new.digit self.new.len self.new.bytes }
-        ensures end { result ≤ at + 122 }
-        ensures text { take result buffer.new ≡ take at buffer.old ++ open_text line.now number }
-    {
-        let end = line.put(number, buffer, at);
-        self.bytes.copy_from_slice(&buffer[at..at + LINE_BYTES]);
-        let len = end - at;
-        self.first = u64::from(number - number % 10);
-        self.digit = len - line.behind() - 1;
-        self.len = len;
         end
     }
 }
