@@ -66,6 +66,7 @@ GUARDS = [  # a guard, a text, and the query; T15 and U15 are fifteen optional c
     ('`MOST_STEPS`', '`/^T16a$/ join /^U16b$/`', '/^%sa$/ join /^%sb$/' % (optional(16), optional(16, 'w'))),
     ('`MOST_STEPS`', '`/!x{[ab]*}/ minus /!x{([ab]?){500}([ab]?){400}}/`', '/!x{[ab]*}/ minus /!x{([ab]?){500}([ab]?){400}}/'),
     ('`MOST_STEPS`', 'the same with `{1000}` and `{900}`', '/!x{[ab]*}/ minus /!x{([ab]?){1000}([ab]?){900}}/'),
+    ('`MOST_STEPS`', '`/^a/ minus /^(.{450,}){22}/`', '/^a/ minus /^(.{450,}){22}/'),
     ('ends of an atom', '`/^(a?){200}T15$/`', '/^(a?){200}%s$/' % optional(15)),
     ('ends of an atom', '`/^(a?){250}T15$/`', '/^(a?){250}%s$/' % optional(15)),
     ('ends of a join', '`/^T11$/ join /^U11$/`', two(11)),

@@ -391,6 +391,9 @@ def differences():
     hard('differences', '20,000 pairs', pairs % 'c?', ONE, document=9999 * b'b')
     hard('differences', '20,001 pairs', pairs % '(c|d)?', ONE, STATES, document=9999 * b'b')
     hard('differences', '2,000,000 ways', '/^([ab]?){1000}$/ minus /^[ab]*a$/', ONE, document=b'ab')
+    optional = '/!x{[ab]*}/ minus /!x{([ab]?){1000}([ab]?){900}}/'
+    hard('differences', 'less 1,900 optional letters, on as many', optional, NO_ROW, document=950 * b'ab')
+    hard('differences', 'less 1,900 optional letters, on one more', optional, page(row(('x', 0, 1901))), document=950 * b'ab' + b'a')
     hard('differences', '2,000,000 ways, and some more', '/^([ab]?){1000}c?$/ minus /^[ab]*a$/', ONE, WAYS, document=b'ab')
     bits = '|'.join('[%s]' % ''.join('\\x%02x' % b for b in range(256) if b >> bit & 1) for bit in range(8))
     for count, answers in ((31, []), (32, [WAYS]), (1000, [STATES, WAYS])):
