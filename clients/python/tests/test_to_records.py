@@ -111,6 +111,7 @@ class Prosite(Folder):
                 prosite.query_of_prosite(text)
             self.assertIn(part, str(fault.exception))
             self.assertIn('a pattern of PROSITE is', fault.exception.hint)
+        self.assertIn('hint: a pattern of PROSITE is given with --prosite', asked('bed', '-e', 'N-{P}-[ST]', stdin=b'>p\nN\n')[2])
         self.assertEqual(asked('bed', '--prosite', '-e', 'N-(', stdin=b'>p\nN\n')[0], 3)
         self.assertIn('p: line 1: query: unexpected at 0', asked('bed', '--prosite', '--pattern-file', self.file('p', 'a\t/N/'), stdin=b'>p\nN\n')[2])
         self.assertIn('--prosite is of proteins', asked('bed', '--prosite', '--iupac', '-e', 'N', stdin=b'>p\nN\n')[2])

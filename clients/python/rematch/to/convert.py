@@ -68,7 +68,7 @@ class Command:
         self.status = 0
         self.afterwards: List[Callable[[], None]] = []  # what is done once the output is whole
         self.lists = Lists(os.path.dirname(given.name) if given.name not in (None, '-') else '', given.normal)
-        self.expansion: Expanded = expanded(in_form(read_source(given), given.normal), self.lists)
+        self.expansion: Expanded = self.expanded(in_form(read_source(given), given.normal))
         self.has_anchors = has_anchors_alone(self.expansion.source)
         self.has_told_of_rows = False
         self.is_converted = bool(given.encoding or given.normal)
@@ -77,6 +77,16 @@ class Command:
             return
         self.query = self.read_query()
         self.tell_advice()
+
+    def expanded(self, source: bytes) -> Expanded:
+        """The query with its conveniences written out; of a pattern of PROSITE it is told how it is given."""
+        from .prosite import is_prosite
+        try:
+            return expanded(source, self.lists)
+        except QueryError as fault:
+            if self.given.form in ('bed', 'gff', 'fasta', 'check') and is_prosite(source):
+                fault.hint = 'a pattern of PROSITE is given with --prosite'
+            raise
 
     @property
     def has_no_query(self) -> bool:

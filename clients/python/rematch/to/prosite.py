@@ -6,7 +6,7 @@ from typing import List
 
 from ..faults import QueryError
 
-__all__ = ['query_of_prosite']
+__all__ = ['is_prosite', 'query_of_prosite']
 
 _LETTERS = 'ABCDEFGHIJKLMNOPQRSTUVWXYZ'
 _ELEMENT = re.compile(r'(?:(?P<any>x)|(?P<one>[A-Z])|\[(?P<some>[A-Z]+>?)\]|\{(?P<none>[A-Z]+)\})(?:\((?P<least>\d+)(?:,(?P<most>\d+))?\))?')
@@ -79,3 +79,16 @@ def _formula_of(found: 're.Match[str]', text: str, at: int) -> str:
     if most is not None and int(most) < int(least):
         raise _fault('a repeat whose least is above its most', text, at)
     return one + ('' if least is None else f'{{{least}}}' if most is None else f'{{{least},{most}}}')
+
+
+def is_prosite(text: bytes) -> bool:
+    """Whether a text is a pattern of PROSITE of several elements.
+
+    >>> is_prosite(b'N-{P}-[ST]-{P}'), is_prosite(b'/a-b/')
+    (True, False)
+    """
+    try:
+        query_of_prosite(text.decode('utf-8', 'replace'))
+        return b'-' in text
+    except QueryError:
+        return False
