@@ -39,16 +39,16 @@ _rematch() {
 }
 
 _rematch_to_options=$(printf '%s ' \
-    -e -q -a --words -r --glob --files-from --no-head -o --quiet --silent --filter --max-table --jobs -n --var --columns --texts --context --characters --sort --sample \
-    --sentence --color -C -v --line-numbers --rows --lines --forward --iupac --sorted --strand-once --encoding --normal --frames --most-rows --expanded \
-    --from-start --state --idle --version --help)
+    -e -q -a --words --pattern-file -r --glob --files-from --no-head --head -o --quiet --silent --filter --max-table --jobs -n --var --columns -t --texts --context --characters --sort \
+    --sample --sentence --color -C -v --line-numbers --rows --lines --forward --iupac --circular --prosite --sorted --strand-once --encoding --normal --frames \
+    --most-rows --expanded --from-start --state --idle --version --help)
 
 _rematch_to() {
     local word=${COMP_WORDS[COMP_CWORD]} before=${COMP_WORDS[COMP_CWORD-1]}
     COMPREPLY=()
     case $before in
         -q) _rematch_files -X '!*.query'; return ;;
-        -o|--words|--state|--files-from) _rematch_files; return ;;
+        -o|--words|--pattern-file|--state|--files-from) _rematch_files; return ;;
         --sort) _rematch_words 'left right word'; return ;;
         --color) _rematch_words 'auto always never'; return ;;
         -e|--glob|--max-table|--jobs|-n|--var|--columns|--context|--sample|-C|--most-rows|--idle) return ;;

@@ -180,7 +180,8 @@ def _owned(query: Query, part: bytes, first: int, piece: Piece, owns_end: bool) 
             raise NoReach('a row has no spans, and begins nowhere')
         begins += first
         if piece.start <= begins < piece.end or (owns_end and begins == piece.end):
-            yield tuple([place if place < 0 else place + first for place in row])
+            places = tuple([place if place < 0 else place + first for place in row])
+            yield places if type(row) is tuple else row.at(places)  # type: ignore[attr-defined]  # a row with a name keeps it
 
 
 def table_of_piece(query: Query, path: Path, start: int, end: int, lines: Optional[int] = None) -> Dict[str, Sequence[Any]]:

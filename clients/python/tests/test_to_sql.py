@@ -36,6 +36,7 @@ class Rows(Folder):
         self.assertEqual(table('select typeof(x), x from rows', '-e', '/!x{[^a]}/', stdin=b'a\xff\0'), [('blob', '\\xff'), ('text', '\0')])
         self.assertEqual(table('select count(*) from rows', '-e', '/a/', stdin=b'aa'), [('1',)])
         self.assertEqual(asked('sql', "select 'a,b', null", '--tsv', '-e', '/!x{a}/', stdin=b'')[1], "'a,b'\tnull\na,b\t\n")
+        self.assertEqual(asked('sql', "select 1", '--no-head', '-e', '/!x{a}/', stdin=b'')[1], '1\n')
         self.assertEqual(asked('sql', 'select null', '-e', '/a/', stdin=b'')[1], 'null\n""\n')
 
     def test_several_queries(self):

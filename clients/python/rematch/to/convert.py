@@ -14,6 +14,8 @@ from ..faults import CursorError, DocumentError, OutOfMemory, QueryError, Rematc
 from ..match import Row
 from ..pieces import NoReach, reach
 from ..query import Query
+from ..reader import read
+from ..tree import captures_of
 from .command import is_watched, line_of, run_told
 from .expand import Expanded, captured, expanded
 from .doubts import doubts_of, has_anchors_alone, has_several_lines, oddity_of
@@ -38,14 +40,19 @@ _ROWS_SEEN = ('csv', 'tsv', 'freq', 'kwic', 'count', 'html')  # the forms of whi
 
 def read_source(given: Words) -> bytes:
     """The text of the query, as it is given."""
-    if given.list is not None:
+    if given.list is not None or given.patterns_file is not None:
         return b'/[^\\w]!word{..}[^\\w]/'  # of which nothing is told
     if given.text is not None:
-        return given.text.encode('utf-8', 'surrogateescape')
-    if given.name == '-':
-        return sys.stdin.buffer.read()
-    with open(str(given.name), 'rb') as file:
-        return file.read()
+        text = given.text.encode('utf-8', 'surrogateescape')
+    elif given.name == '-':
+        text = sys.stdin.buffer.read()
+    else:
+        with open(str(given.name), 'rb') as file:
+            text = file.read()
+    if not given.prosite:
+        return text
+    from .prosite import query_of_prosite
+    return query_of_prosite(text.decode('utf-8', 'replace')).encode()
 
 
 class Command:
@@ -61,7 +68,7 @@ class Command:
         self.status = 0
         self.afterwards: List[Callable[[], None]] = []  # what is done once the output is whole
         self.lists = Lists(os.path.dirname(given.name) if given.name not in (None, '-') else '', given.normal)
-        self.expansion: Expanded = expanded(in_form(read_source(given), given.normal), self.lists)
+        self.expansion: Expanded = self.expanded(in_form(read_source(given), given.normal))
         self.has_anchors = has_anchors_alone(self.expansion.source)
         self.has_told_of_rows = False
         self.is_converted = bool(given.encoding or given.normal)
@@ -70,6 +77,21 @@ class Command:
             return
         self.query = self.read_query()
         self.tell_advice()
+
+    def expanded(self, source: bytes) -> Expanded:
+        """The query with its conveniences written out; of a pattern of PROSITE it is told how it is given."""
+        from .prosite import is_prosite
+        try:
+            return expanded(source, self.lists)
+        except QueryError as fault:
+            if self.given.form in ('bed', 'gff', 'fasta', 'check') and is_prosite(source):
+                fault.hint = 'a pattern of PROSITE is given with --prosite'
+            raise
+
+    @property
+    def has_no_query(self) -> bool:
+        """Whether words or patterns of a file are searched."""
+        return self.given.list is not None or self.given.patterns_file is not None
 
     @property
     def is_coloured(self) -> bool:
@@ -82,6 +104,8 @@ class Command:
             from .wordlist import ListQuery, words_of
             with open(self.given.list, 'rb') as file:
                 return ListQuery(words_of(in_form(file.read(), self.given.normal), self.given.list), **words)
+        if self.given.patterns_file is not None:
+            return self.read_patterns(words)
         texts = texts_of_parts(self.expansion.source, self.lists, self.read_text)
         if len(texts) > 1:
             return self.read_parts(texts, words)
@@ -100,6 +124,28 @@ class Command:
                 refuse('the query has no capture, so no row has a place: put !name{..} around what the lines have')
             query = make(made.text, **words)
         return query
+
+    def read_patterns(self, words: Dict[str, Any]) -> Query:
+        """The named patterns of a file."""
+        from .patterns import PatternQuery, patterns_of
+        path = str(self.given.patterns_file)
+        self.lists = Lists(os.path.dirname(path), self.given.normal)
+        with open(path, 'rb') as file:
+            patterns = patterns_of(in_form(file.read(), self.given.normal), path, self.text_of_pattern)
+        return PatternQuery(patterns, path, **words)
+
+    def text_of_pattern(self, text: str) -> str:
+        """The query of a named pattern, which captures all of its formula where it has no capture."""
+        from .patterns import MATCH, query_of_formula
+        from .prosite import query_of_prosite
+        if self.given.prosite:
+            return query_of_prosite(text, MATCH)
+        source = query_of_formula(text)
+        made = expanded(source, self.lists)
+        if not any(True for atom in read(made.text, is_limited=False).atoms for _ in captures_of(atom.formula)):
+            made = captured(source, MATCH.encode(), self.lists) or made
+        self.has_anchors = self.has_anchors or has_anchors_alone(made.source)
+        return (with_iupac(made.text) if self.given.iupac else made.text).decode('utf-8', 'surrogateescape')
 
     def read_parts(self, texts: List[bytes], words: Dict[str, Any]) -> Query:
         """The query, of which the list is cut since it is too long for one."""
@@ -138,7 +184,7 @@ class Command:
 
     def tell_advice(self) -> None:
         """Tells advice on the query on a terminal, where it is wanted."""
-        if self.given.form == 'check' or self.given.list is not None or self.given.quiet or self.given.silent or not is_watched():
+        if self.given.form == 'check' or self.has_no_query or self.given.quiet or self.given.silent or not is_watched():
             return
         is_told = self.given.form == 'count' and not self.query.variables
         if is_told:

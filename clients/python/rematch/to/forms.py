@@ -10,7 +10,7 @@ from typing import TYPE_CHECKING, Any, Dict, Iterable, Iterator, List, NoReturn,
 
 from ..match import Row
 from .packed import Given
-from .tables import Context, Layout, Table, concordance, first_place, json_lines, shown_text, sorted_contexts
+from .tables import Context, Layout, Table, concordance, first_place, has_names, json_lines, shown_text, sorted_contexts
 from .jobs import Part
 from .lines import count_lines, shown_lines
 
@@ -106,7 +106,7 @@ class _Json(Form):
 
     def __init__(self, command: 'Command') -> None:
         super().__init__(command)
-        twice = next((name for name in ('document', 'line') if name in self.query.variables), None)
+        twice = next((name for name in ('document', 'line', *['pattern'] * has_names(self.query)) if name in self.query.variables), None)
         if twice is not None:
             refuse(f'each row has a member {twice}: rename the variable')
 
@@ -292,29 +292,29 @@ class _Freq(Form):
 
     def __init__(self, command: 'Command') -> None:
         super().__init__(command)
-        self.names: Sequence[str] = self.query.variables if self.given.var is None else [name.strip()
-                                                                                         for name in self.given.var.split(',')]
-        missing = next((name for name in self.names if name not in self.query.variables), None)
+        every = ['pattern'] * has_names(self.query) + list(self.query.variables)
+        self.names: Sequence[str] = every if self.given.var is None else [name.strip() for name in self.given.var.split(',')]
+        missing = next((name for name in self.names if name not in every), None)
         if missing is not None:
-            refuse(f'the query has no variable {missing}: it has {", ".join(self.query.variables) or "none"}')
+            refuse(f'the query has no variable {missing}: it has {", ".join(every) or "none"}')
         if not self.names:
             refuse('the query has no variables, and counts are of their texts: put !name{..} around what is counted')
         self.counts: 'Counter[Tuple[bytes, ...]]' = Counter()
-        self.at = [2 * self.query.variables.index(name) for name in self.names]
-        self.takes_pieces = bool(self.given.rows) or set(self.names) == set(self.query.variables)  # each row has places of its own then
+        self.at = [-1 if has_names(self.query) and name == 'pattern' else 2 * self.query.variables.index(name) for name in self.names]
+        self.takes_pieces = bool(self.given.rows) or set(self.names) == set(every) or self.at == [-1]  # each row has places of its own then
 
     def of(self, found: Given) -> 'Counter[Tuple[bytes, ...]]':
         data: bytes = found.data
         rows = self.command.rows(found)
-        return Counter(tuple([data[row[k]:row[k + 1]] if row[k] >= 0 else b'' for k in self.at])
+        return Counter(tuple([row.pattern.encode() if k < 0 else data[row[k]:row[k + 1]] if row[k] >= 0 else b'' for k in self.at])
                        for row in (rows if self.takes_pieces else self.places(rows)))
 
     def places(self, rows: Iterable[Row]) -> Iterator[Row]:
         """The rows without those whose spans of what is counted an earlier one has; where one is absent, each row counts."""
         seen = set()
         for row in rows:
-            place = tuple([place for k in self.at for place in row[k:k + 2]])
-            if min(place) < 0 or place not in seen:
+            place = tuple([place for k in self.at for place in (row[k:k + 2] if k >= 0 else (row.pattern,))])
+            if any(row[k] < 0 for k in self.at if k >= 0) or place not in seen:
                 seen.add(place)
                 yield row
 
@@ -345,27 +345,30 @@ class _Places(Form):
         from .sequences import in_order, once, sites
         data: bytes = found.data
         self.tell_letters(found.name, data)
-        every = sites(self.query, data, both=not self.given.forward, left_out=self.left_out(found))
+        every = sites(self.query, data, both=not (self.given.forward or self.given.prosite), is_circular=bool(self.given.circular), left_out=self.left_out(found))
         if self.given.strand_once:
             every = once(every)
         return self.command.progress.counted(in_order(every) if self.given.sorted else every)
 
     def tell_letters(self, name: str, data: bytes) -> None:
         from .nucleotides import has_plain_t, open_letters
+        from .fastq import are_reads, head_in_fasta
         from .sequences import are_proteins, are_rna, has_records, name_of_two
         if not has_records(data):
             return  # which is a fault, told alone
+        if are_reads(data):
+            data = head_in_fasta(data)
         twice = name_of_two(data)
         if twice is not None:
             self.command.tell(f'{name}: two records are called {twice!r}, so a place in it may be of either')
         is_protein = are_proteins(data)
-        if is_protein and not self.given.forward:
+        if is_protein and not (self.given.forward or self.given.prosite):
             self.command.tell(f'{name}: it has letters of proteins, which have no other strand: --forward leaves it out')
         if is_protein and self.given.iupac:
             self.command.tell(f'{name}: it has letters of proteins, and --iupac reads those of the query as nucleotides: drop it')
         if not is_protein and has_plain_t(self.query.text) and are_rna(data):
             self.command.tell(f'{name}: its records have U and no T, and the query has T: write U, or [TU]')
-        letters = b'' if is_protein or self.given.iupac else open_letters(self.query.text)
+        letters = b'' if is_protein or self.given.iupac or self.given.prosite else open_letters(self.query.text)
         if letters:
             shown = ' '.join(letters.decode())
             self.command.tell(f'{name}: the query has {shown} as plain letter{"s" if len(letters) > 1 else ""}: --iupac has '

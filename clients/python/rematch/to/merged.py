@@ -9,7 +9,7 @@ from ..documents import Source, open_document
 from ..match import Row
 from ..query import Query
 
-__all__ = ['SplitQuery', 'in_order', 'order_of']
+__all__ = ['SplitQuery', 'in_order', 'in_order_with_names', 'order_of']
 
 _END = ((1 << 40, 0),)  # after the last event of a row
 
@@ -40,6 +40,11 @@ def in_order(parts: Sequence[Iterable[Row]]) -> Iterator[Row]:
         if row != last:
             yield row
         last = row
+
+
+def in_order_with_names(parts: Sequence[Iterable[Row]]) -> Iterator[Row]:
+    """The rows of several lists together in order; of rows at the same places those of an earlier list come first."""
+    return merge(*parts, key=order_of)
 
 
 class SplitQuery(Query):

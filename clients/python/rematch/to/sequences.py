@@ -20,6 +20,9 @@ from ..match import Row
 from ..query import Query
 from ..reader import read
 from .._reach import NoReach, length_of_printed
+from .circles import Circles, blocks_of
+from .fastq import are_reads, reads_of
+from .patterns import MATCH
 
 __all__ = ['GFF_HEAD', 'Record', 'Site', 'are_proteins', 'bed_lines', 'each_record', 'fasta_lines', 'frame_of', 'gff_lines',
            'has_anchor', 'has_records', 'in_order', 'name_of_two', 'once',
@@ -48,11 +51,21 @@ class Site(NamedTuple):
     record: Record
     strand: str
     row: Row
+    pattern: str = ''  # the name of the pattern, where patterns have names
 
     def spans(self, names: Sequence[str]) -> List['Named']:
         """The spans that are there, by their places."""
         places = iter(self.row)
-        return sorted((Named(start, end, name) for name, start, end in zip(names, places, places) if start >= 0))
+        return sorted((Named(start, end, self.name(name)) for name, start, end in zip(names, places, places) if start >= 0))
+
+    def name(self, variable: str) -> str:
+        """The name of a span: that of its variable, or of its pattern."""
+        return variable if not self.pattern else self.pattern if variable == MATCH else f'{self.pattern}.{variable}'
+
+    def letters(self, start: int, end: int) -> bytes:
+        """The letters of a span on the forward strand; in a circle it may go over the end of the record."""
+        letters = self.record.letters
+        return letters[start:end] + (letters[:end - len(letters)] if end > len(letters) else b'')
 
 
 class Named(NamedTuple):
@@ -74,9 +87,12 @@ def records_of(data: bytes) -> List[Record]:
 
 def each_record(data: bytes) -> Iterator[Record]:
     """The records of `records_of`, one after another."""
+    if are_reads(data):
+        yield from (Record(read.name, read.letters.translate(_CAPITALS, _SPACES), number) for number, read in enumerate(reads_of(data)))
+        return
     at = _first_record(data)
     if at < 0:
-        raise DocumentError('no record of FASTA, which begins with > at the start of a line', 5)
+        raise DocumentError('no record of FASTA, which begins with > at the start of a line, or of FASTQ, which begins with @', 5)
     for number in count():
         end = data.find(b'\n>', at)
         yield _record(data, at, end if end >= 0 else len(data), number)
@@ -92,14 +108,21 @@ def name_of_two(data: bytes) -> Optional[str]:
     ('a', None)
     """
     names: Set[str] = set()
-    at = _first_record(data)
-    while at >= 0:
-        name = _name(data, at, len(data))[0]
+    for name in _names(data):
         if name in names:
             return name
         names.add(name)
-        at = data.find(b'\n>', at) + 1 or -1
     return None
+
+
+def _names(data: bytes) -> Iterator[str]:
+    if are_reads(data):
+        yield from (read.name for read in reads_of(data))
+        return
+    at = _first_record(data)
+    while at >= 0:
+        yield _name(data, at, len(data))[0]
+        at = data.find(b'\n>', at) + 1 or -1
 
 
 def _first_record(data: bytes) -> int:
@@ -107,12 +130,12 @@ def _first_record(data: bytes) -> int:
 
 
 def has_records(data: bytes) -> bool:
-    """Whether a record of FASTA begins anywhere.
+    """Whether a record of FASTA begins anywhere, or the first one of FASTQ.
 
     >>> has_records(b'; a note\\n>r\\nGAT\\n'), has_records(b'a > b\\n')
     (True, False)
     """
-    return _first_record(data) >= 0
+    return _first_record(data) >= 0 or are_reads(data)
 
 
 def _record(data: bytes, at: int, end: int, number: int) -> Record:
@@ -197,13 +220,16 @@ def frame_of(site: Site, start: int, end: int) -> str:
     >>> frame_of(Site(Record('r', b'ACGTACGT'), '-', ()), 1, 7)
     '-2'
     """
-    at = start if site.strand == '+' else len(site.record.letters) - end
+    length = len(site.record.letters)
+    at = start if site.strand == '+' else length - end if end <= length else 2 * length - end
     return f'{site.strand}{at % 3 + 1}'
 
 
-def sites(query: Query, data: bytes, *, both: bool = True, left_out: Optional[Callable[[int], None]] = None) -> Iterator[Site]:
+def sites(query: Query, data: bytes, *, both: bool = True, is_circular: bool = False,
+          left_out: Optional[Callable[[int], None]] = None) -> Iterator[Site]:
     """The rows in the records of a file, on the forward strand and then, with ``both``, on the other.
 
+    With ``is_circular`` a site may go over the end of its record, on to the beginning, and its end is then past the record's length.
     ``left_out`` is told how many rows were left out since their spans lie in several records or none. A query with an
     anchor, which would speak of all records together, raises `NoReach`.
 
@@ -214,15 +240,24 @@ def sites(query: Query, data: bytes, *, both: bool = True, left_out: Optional[Ca
         raise NoReach(r'an anchor would be of all records together: a record has \n before it and after it')
     lost = 0
     for strand in '+-' if both else '+':
+        circles = Circles(query, strand) if is_circular else None
         for batch in _batches(each_record(data)):
-            is_long = len(batch) == 1 and len(batch[0].letters) > _WINDOW
-            for site in _sites_of_long(query, batch[0], strand) if is_long else _sites_of(query, batch, strand):
+            for site in _sites_of_batch(query, batch, strand, circles):
                 if site is None:
                     lost += 1
                 else:
                     yield site
     if lost and left_out is not None:
         left_out(lost)
+
+
+def _sites_of_batch(query: Query, batch: Sequence[Record], strand: str, circles: Optional[Circles]) -> Iterator[Optional[Site]]:
+    if circles is not None:
+        yield from circles.closed(_sites_of_batch(query, [circles.opened(record) for record in batch], strand, None))
+    elif len(batch) == 1 and len(batch[0].letters) > _WINDOW:
+        yield from _sites_of_long(query, batch[0], strand)
+    else:
+        yield from _sites_of(query, batch, strand)
 
 
 def has_anchor(query: Query) -> bool:
@@ -254,7 +289,7 @@ def _sites_of(query: Query, records: Sequence[Record], strand: str) -> Iterator[
         if not places or k < 0 or max(places) > starts[k] + len(lines[k]):
             yield None
             continue
-        yield Site(records[k], strand, _on_record(row, starts[k], len(lines[k]), strand))
+        yield Site(records[k], strand, _on_record(row, starts[k], len(lines[k]), strand), getattr(row, 'pattern', ''))
 
 
 def _sites_of_long(query: Query, record: Record, strand: str) -> Iterator[Optional[Site]]:
@@ -283,7 +318,7 @@ def _sites_of_long(query: Query, record: Record, strand: str) -> Iterator[Option
                 has_lost = True
             elif start <= min(places) < end or min(places) == end == total:
                 is_within = min(places) > 0 and max(places) < total
-                yield Site(record, strand, _on_record(row, 1 - first, total - 2, strand)) if is_within else None
+                yield Site(record, strand, _on_record(row, 1 - first, total - 2, strand), getattr(row, 'pattern', '')) if is_within else None
     if has_lost:
         yield None
 
@@ -318,12 +353,13 @@ def bed_lines(found: Iterable[Site], names: Sequence[str], *, frames: bool = Fal
         spans = site.spans(names)
         are_apart = all(a.end <= b.start for a, b in zip(spans, spans[1:])) and all(span.start < span.end for span in spans)
         for group in ([spans] if are_apart or len(spans) == 1 else [[span] for span in spans]):
-            start, end = group[0].start, max(span.end for span in group)
             name = '+'.join(span.name for span in group) + ('' if len(group) == len(spans) else f'.{number}')
-            name += f'({frame_of(site, start, end)})' if frames else ''
-            sizes = ','.join(str(span.end - span.start) for span in group)
-            begins = ','.join(str(span.start - start) for span in group)
-            yield f'{site.record.name}\t{start}\t{end}\t{name}\t0\t{site.strand}\t{start}\t{end}\t0\t{len(group)}\t{sizes}\t{begins}\n'
+            name += f'({frame_of(site, group[0].start, max(span.end for span in group))})' if frames else ''
+            blocks = blocks_of([(span.start, span.end) for span in group], len(site.record.letters))
+            start, end = blocks[0][0], max(end for _, end in blocks)
+            sizes = ','.join(str(block[1] - block[0]) for block in blocks)
+            begins = ','.join(str(block[0] - start) for block in blocks)
+            yield f'{site.record.name}\t{start}\t{end}\t{name}\t0\t{site.strand}\t{start}\t{end}\t0\t{len(blocks)}\t{sizes}\t{begins}\n'
 
 
 def write_bed(found: Iterable[Site], names: Sequence[str], out: TextIO, *, frames: bool = False) -> None:
@@ -341,7 +377,7 @@ def gff_lines(found: Iterable[Site], names: Sequence[str]) -> Iterator[str]:
             empty = ';empty=1' if span.start == span.end else ''
             start = max(1, span.start) if empty else span.start + 1
             yield (f'{quote(site.record.name, safe=".:^*$@!+_?|-")}\trematch\tsequence_feature\t{start}\t{max(start, span.end)}\t.\t{site.strand}\t.\t'
-                   f'Name={span.name};row={number};frame={frame_of(site, span.start, span.end)}{empty}\n')
+                   f'Name={quote(span.name, safe=" .:^*$@!+_?|-")};row={number};frame={frame_of(site, span.start, span.end)}{empty}\n')
 
 
 def write_gff(found: Iterable[Site], names: Sequence[str], out: TextIO) -> None:
@@ -359,7 +395,7 @@ def fasta_lines(found: Iterable[Site], names: Sequence[str]) -> Iterator[str]:
     """
     for site in found:
         for span in site.spans(names):
-            letters = site.record.letters[span.start:span.end]
+            letters = site.letters(span.start, span.end)
             letters = other_strand(letters) if site.strand == '-' else letters
             yield f'>{site.record.name}:{span.start}-{span.end}({site.strand}) {span.name}\n{letters.decode("latin-1")}\n'
 
@@ -372,7 +408,7 @@ def once(found: Iterable[Site]) -> Iterator[Site]:
     """
     seen = set()
     for site in found:
-        key = site.record.number, tuple(sorted(zip(site.row[::2], site.row[1::2])))
+        key = site.record.number, site.pattern, tuple(sorted(zip(site.row[::2], site.row[1::2])))
         if site.strand == '+':
             seen.add(key)
         elif key in seen:

@@ -212,7 +212,8 @@ class _Tables:
             if found.description is None:
                 return
             table = csv.writer(out, lineterminator='\n', delimiter='\t' if self.given.tsv else ',')
-            table.writerow([column[0] for column in found.description])
+            if not self.given.no_head:
+                table.writerow([column[0] for column in found.description])
             table.writerows([shown_text(cell) if isinstance(cell, bytes) else cell for cell in row] for row in found)
         except (sqlite3.Error, sqlite3.Warning) as fault:
             if str(fault) == 'interrupted':
@@ -249,6 +250,7 @@ def _parser() -> _Parser:
     parser.add_argument('-e', dest='texts', action='append', default=[], metavar='[TABLE=]TEXT', help='a query; its table is rows')
     parser.add_argument('--csv', dest='tables', action='append', default=[], metavar='TABLE=FILE', help='one more table, from a file of CSV (or .tsv)')
     parser.add_argument('--tsv', action='store_true', help='write tabs in place of commas')
+    parser.add_argument('--no-head', action='store_true', help='no line with the names of the columns')
     parser.add_argument('-o', dest='out', metavar='NAME', help='write there')
     parser.add_argument('--quiet', action='store_true', help='no advice on the queries, which is written on a terminal alone')
     parser.add_argument('--silent', action='store_true', help='no advice, and no warnings of documents and rows')

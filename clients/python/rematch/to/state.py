@@ -214,6 +214,8 @@ def _write(command: 'Command', table: 'Table', places: Dict[str, Place], *, is_f
             command.out.write(table.head())
         has_row = True
         command.out.write(line)
+    if is_first and not has_row and command.given.head:
+        command.out.write(table.head())
     command.out.flush()
     return has_row
 

@@ -15,13 +15,19 @@ from ..visible import BIDI
 from .packed import Given
 from .sentences import sentence_round
 
-__all__ = ['Characters', 'Context', 'Layout', 'Table', 'concordance', 'extent_of', 'first_place', 'json_lines', 'sorted_contexts',
+__all__ = ['Characters', 'Context', 'Layout', 'Table', 'concordance', 'extent_of', 'first_place', 'has_names', 'json_lines', 'sorted_contexts',
            'write_annotations']
 
 
 def shown_text(part: bytes) -> str:
     """The text of bytes as it is; bytes that are no text as \\xhh."""
     return part.decode('utf-8', 'backslashreplace')
+
+
+def has_names(query: Query) -> bool:
+    """Whether a row has the name of a pattern."""
+    from .patterns import PatternQuery
+    return isinstance(query, PatternQuery)
 
 
 def first_place(row: Row) -> Optional[int]:
@@ -95,9 +101,10 @@ class Table:
         self._query = query
         self._layout = layout
         around = ['left', 'right'] if layout.context is not None or layout.is_sentence else []
-        every = ['document', 'line'] + [name + end for name in query.variables for end in ('_start', '_end', '')] + around
+        named = ['pattern'] * has_names(query)
+        every = ['document', 'line'] + named + [name + end for name in query.variables for end in ('_start', '_end', '')] + around
         if layout.is_texts_alone:
-            self._names: Sequence[str] = ['document', 'line', *query.variables, *around]
+            self._names: Sequence[str] = ['document', 'line', *named, *query.variables, *around]
         else:
             self._names = every if layout.columns is None else layout.columns
         missing = next((name for name in self._names if name not in every), None)
@@ -110,7 +117,7 @@ class Table:
                              ', or say by --columns which columns there are'))
         if layout.middle is not None and layout.middle not in query.variables:
             raise ValueError(f'the query has no variable {layout.middle}')
-        self._is_usual = list(self._names) == every and not around and not layout.is_in_characters
+        self._is_usual = list(self._names) == every and not around and not named and not layout.is_in_characters
 
     def head(self) -> str:
         """The first line."""
@@ -150,6 +157,8 @@ class Table:
             return lambda row: shown
         if name == 'line':
             return lambda row: '' if first_place(row) is None else str(number(first_place(row)))  # type: ignore[arg-type]
+        if name == 'pattern' and has_names(self._query):
+            return lambda row: cell_of(row.pattern, delimiter)  # type: ignore[attr-defined]
         if name in self._query.variables:
             at = 2 * self._query.variables.index(name)
             return lambda row: '' if row[at] < 0 else cell_of(shown_text(data[row[at]:row[at + 1]]), delimiter)
@@ -198,10 +207,13 @@ def json_lines(query: Query, given: Given, rows: Iterable[Row], *, is_texts_alon
     """
     from json import dumps
     data = given.data
+    is_named = has_names(query)
     number = given.numbers()
     for row in rows:
         first = first_place(row)
         cells: Dict[str, Any] = {'document': shown_text(os.fsencode(given.name)), 'line': None if first is None else number(first)}
+        if is_named:
+            cells['pattern'] = row.pattern  # type: ignore[attr-defined]
         places = iter(row)
         for name, start, end in zip(query.variables, places, places):
             text = shown_text(data[start:end]) if start >= 0 else None

@@ -47,8 +47,10 @@ FORMS: Dict[str, Form] = {
                  "rematch-to freq --var user -q failed.query auth.log*\n"
                  "rematch-to freq -n 10 --var user,address -q failed.query auth.log*\n\n"
                  'A row counts once. The table has the column count and one for each variable that --var names (all of them).'),
-    'bed': Form('places in the records of FASTA, from 0',
-                "rematch-to bed --sorted -q two_sites.query reads.fasta | bedtools merge -i -"),
+    'bed': Form('places in the records of FASTA or FASTQ, from 0',
+                "rematch-to bed --sorted -q two_sites.query reads.fasta | bedtools merge -i -\n"
+                "rematch-to bed --circular --pattern-file motifs.txt plasmid.fa\n"
+                "rematch-to bed --prosite -e 'N-{P}-[ST]-{P}' proteins.fa"),
     'gff': Form('the same as GFF3, from 1', 'rematch-to gff -q two_sites.query reads.fasta'),
     'fasta': Form('the letters of each span in the records of FASTA',
                   "rematch-to fasta --iupac -e '/!site{GGNCC}/' genome.fa.gz\n\n"
@@ -94,6 +96,7 @@ _TABLES, _PLACES = ('csv', 'tsv', 'follow'), ('bed', 'gff', 'fasta')
 _JOBS = ('csv', 'tsv', 'json', 'kwic', 'lines', 'count', 'freq', *_PLACES)
 _FIRST = ('csv', 'tsv', 'json', 'kwic', 'lines', 'freq')
 LIST_FORMS = (*_FIRST, 'parquet', 'count', 'any', 'html')
+PATTERN_FORMS = ('csv', 'tsv', 'json', 'lines', 'freq', 'count', 'any', *_PLACES)
 _TEXTS = (*LIST_FORMS, 'ann', 'why')
 
 
@@ -101,19 +104,23 @@ class _Option(NamedTuple):
     name: str
     forms: Tuple[str, ...]  # empty: of all
     words: Dict[str, Any]
+    short: str = ''
 
 
-def _option(name: str, forms: Sequence[str], **words: Any) -> _Option:
-    return _Option(name, tuple(forms), words)
+def _option(name: str, forms: Sequence[str], short: str = '', **words: Any) -> _Option:
+    return _Option(name, tuple(forms), words, short)
 
 
 _OPTIONS = (
     _option('--words', LIST_FORMS, dest='list', metavar='FILE', help='the words of this file, one on each line, in place of a query; the variable is word'),
+    _option('--pattern-file', PATTERN_FORMS, dest='patterns_file', metavar='FILE',
+            help='in place of a query the patterns of this file: on each line a name, a tab and a formula; the rows have the name'),
     _option('-o', (), dest='out', metavar='NAME', help='write there; for ann of several documents a folder'),
     _option('-r', (), dest='is_deep', action='store_true', help='the files below each DOC that is a folder (.)'),
     _option('--glob', (), dest='patterns', action='append', metavar='PATTERN', help='with -r: files of these names alone, as *.log'),
     _option('--files-from', (), dest='listed', metavar='FILE', help='the documents that this file names too, one on each line'),
     _option('--no-head', (*_TABLES, 'freq'), action='store_true', help='no line with the names of the columns'),
+    _option('--head', _TABLES, action='store_true', help='with --state the line with the names of the columns also where there is no new row'),
     _option('--quiet', (), action='store_true', help='no advice on the query, which is written on a terminal alone'),
     _option('--silent', (), action='store_true', help='no advice, and no warnings of documents and rows'),
     _option('--filter', (), action='store_true', help='read only where the query touches a document'),
@@ -125,7 +132,7 @@ _OPTIONS = (
                  '(all)'),
     _option('--columns', (*_TABLES, 'kwic'), metavar='A,B',
             help='tables: these columns in this order; kwic: a number, the columns on either side (35)'),
-    _option('--texts', (*_TABLES, 'json'), action='store_true', help='document, line and the texts alone'),
+    _option('--texts', (*_TABLES, 'json'), action='store_true', short='-t', help='document, line and the texts alone'),
     _option('--context', _TABLES, type=int, metavar='N',
             help='the columns left and right: so many characters around the row, or around --var'),
     _option('--sentence', ('csv', 'tsv', 'kwic'), action='store_true',
@@ -143,6 +150,8 @@ _OPTIONS = (
     _option('--lines', ('count',), action='store_true', help='count the lines that a row touches'),
     _option('--forward', _PLACES, action='store_true', help='the forward strand alone'),
     _option('--iupac', (*_PLACES, 'check'), action='store_true', help='letters such as N, R, Y in the query stand for what they mean, in classes too'),
+    _option('--circular', _PLACES, action='store_true', help='the records are circles: a site may go over the end of one'),
+    _option('--prosite', (*_PLACES, 'check'), action='store_true', help='the query is a pattern of PROSITE, as N-{P}-[ST]-{P}; the forward strand alone'),
     _option('--sorted', _PLACES, action='store_true', help='by record and place, as bedtools wants it (all rows are held)'),
     _option('--strand-once', _PLACES, action='store_true', help='a palindrome, whose places both strands have, once'),
     _option('--encoding', _TEXTS, metavar='NAME', help='the documents are in this encoding, as latin-1; places are those of the text in UTF-8'),
@@ -205,7 +214,7 @@ def _parser(form: Optional[str] = None) -> _Parser:
         if form is None or not option.forms or form in option.forms:
             is_told = own is None and 0 < len(option.forms) < 4 and not option.words['help'].startswith(option.forms)
             of = ', '.join(option.forms) + ': ' if is_told else ''
-            parser.add_argument(option.name, **{**option.words, 'help': of + option.words['help']})
+            parser.add_argument(*filter(None, (option.short, option.name)), **{**option.words, 'help': of + option.words['help']})
     parser.add_argument('documents', nargs='*', metavar='DOC')
     return parser
 
@@ -242,14 +251,17 @@ def read_words(words: Sequence[str]) -> Words:
         parser.error(f'there is no form {given.form!r}: the forms are {", ".join([*FORMS, *OTHER_FORMS])}')
     if given.text is not None and given.name is not None:
         parser.error('the query is given by -e or by -q, and not by both')
-    if given.text is None and given.name is None and given.list is None:
+    if given.text is None and given.name is None and given.list is None and given.patterns_file is None:
         parser.error('there is no query: -e TEXT or -q NAME gives it')
     for option in _OPTIONS:
         value = getattr(given, option.words.get('dest', option.name.strip('-').replace('-', '_')))
         if option.forms and given.form not in option.forms and value not in (None, False):
             parser.error(f'{option.name} is of {", ".join(option.forms)}, and not of {given.form}')
-    if given.list is not None and (given.text is not None or given.name is not None):
-        parser.error('the query is given by --words or by -e or -q, and not by both')
+    for name, value in (('--words', given.list), ('--pattern-file', given.patterns_file)):
+        if value is not None and (given.text is not None or given.name is not None):
+            parser.error(f'the query is given by {name} or by -e or -q, and not by both')
+    if given.list is not None and given.patterns_file is not None:
+        parser.error('the query is given by --words or by --pattern-file, and not by both')
     _refuse_numbers(parser, given)
     try:
         given.documents = document_names(given.documents, is_deep=given.is_deep, patterns=given.patterns or (), listed=given.listed)
@@ -273,6 +285,14 @@ def _refuse_numbers(parser: _Parser, given: Words) -> None:
                 parser.error(f'--state writes all rows since the last run, by bytes: drop {name}')
     if given.encoding is not None and not _is_encoding(given.encoding):
         parser.error(f'there is no encoding {given.encoding!r}')
+    if given.head and given.no_head:
+        parser.error('--head and --no-head both say whether there is a line with the names of the columns: give one of them')
+    if given.head and given.state is None:
+        parser.error('--head is for --state, which writes nothing where there is no new row: without it the names of the columns are always there')
+    if given.prosite and given.iupac:
+        parser.error('--prosite is of proteins, and --iupac of nucleotides: give one of them')
+    if given.patterns_file is not None and given.state is not None:
+        parser.error('--state takes one query: drop --pattern-file')
     if given.max_table is not None and not 1 <= given.max_table <= 100_000_000:
         parser.error(f'--max-table is 1 to 100000000, not {given.max_table}')
     if given.form == 'kwic' and given.columns is not None and not (given.columns.isdigit() and int(given.columns)):
@@ -425,9 +445,8 @@ def hint_of_words(words: Sequence[str]) -> Optional[str]:
         return (f'the form is the first word: rematch-to {value} -e QUERY DOC ..' if value in FORMS
                 else f'-f is of the program: the query in a file is given by -q {value}')
     for word in words:
-        if word in _OTHERS and word not in ('-C', '-v', '-h', '--help', '--version') or word in ('-t', '-a'):
-            return _OTHERS.get(word, 'the texts alone: --texts' if word == '-t'
-                               else 'rows after a cursor are of the program: rematch -a CURSOR')
+        if word in _OTHERS and word not in ('-C', '-v', '-h', '--help', '--version') or word == '-a':
+            return _OTHERS.get(word, 'rows after a cursor are of the program: rematch -a CURSOR')
     if plain and plain[0] in FORMS and not {'-e', '-q'} & {word[:2] for word in words}:
         return _QUERY_FIRST % plain[1] if len(plain) > 1 else 'the query is given by -e TEXT or -q NAME'
     return None
@@ -435,7 +454,7 @@ def hint_of_words(words: Sequence[str]) -> Optional[str]:
 
 def _without_words_of_the_program(words: Sequence[str]) -> List[str]:
     """The words of check, without those that only the program has; what is wrong with them is told, with status 2."""
-    own = [word for word in words[1:] if word not in ('--quiet', '--silent', '--expanded', '--iupac')]
+    own = [word for word in words[1:] if word not in ('--quiet', '--silent', '--expanded', '--iupac', '--prosite')]
     hint = hint_of_program_words(own)
     if hint is not None:
         print(f'rematch-to: {hint}', file=sys.stderr)
