@@ -274,8 +274,22 @@ def worst(rows, column, form):
     return (form + ': %s') % (float(row[column] or 0), row[1].replace('|', '\\|'))
 
 
+def headline(_):
+    """The steps of the checked file from the formulas up to the page, each with the law that it is and the file of its proof."""
+    text = read('crates', 'whole_program', 'proofs', 'Headline.antt')
+    home = {}
+    for crate, module, names in re.findall(r'^use Rattle\.(\w+)\.proofs\.(\w+)\.\{([^}]*)\}', text, re.M):
+        home.update((name.strip(), '%s/proofs/%s.antt' % (crate, module)) for name in names.split(','))
+    lines = []
+    for place, what, proof in re.findall(r'^ *-- (\d+)\. (.*)\n((?: *\S.*\n)+)', text, re.M):
+        laws = ['`%s` (`%s`)' % (name, home[name]) for name in dict.fromkeys(re.findall(r'\w+', proof)) if name in home]
+        line = '%s. %s%s%s.' % (place, what[0].upper(), what[1:], ': ' + ', '.join(laws) if laws else '')
+        lines += textwrap.wrap(line, 124, subsequent_indent='   ', break_long_words=False, break_on_hyphens=False)
+    return '\n'.join(lines)
+
+
 BLOCKS = {'again': again, 'drawing': drawing, 'edges': edges, 'libraries': libraries, 'counts': counts, 'believe': believe, 'figures': figures,
-          'gate': gate, 'gate_sums': gate_sums, 'hostile': hostile, 'speed': speed}
+          'gate': gate, 'gate_sums': gate_sums, 'headline': headline, 'hostile': hostile, 'speed': speed}
 
 
 # --- Pages ---------------------------------------------------------------------------------------

@@ -55,14 +55,17 @@ def split(query: Union[str, bytes, Query], document: 'Source', *, name: Optional
     return query_of(query).split(document, name=name, count=count)
 
 
-def expand(text: Union[str, bytes]) -> Union[str, bytes]:
+def expand(text: Union[str, bytes], *, folder: Optional[str] = None) -> Union[str, bytes]:
     r"""The query that the program reads for a text with the conveniences of ``rematch-to``; `QueryError` for one that cannot be read.
+
+    A list of words, as `%{words.txt}`, is read from ``folder``, and refused where none is given.
 
     >>> expand('part ip = /[0-9.]+/; /FROM !ip{%{ip}}/i')
     '/[Ff][Rr][Oo][Mm] !ip{([0-9.]+)}/'
     """
     from .to.expand import expanded
-    made = expanded(text).text
+    from .to.listed import Lists
+    made = expanded(text, None if folder is None else Lists(folder)).text
     return made.decode('utf-8', 'surrogateescape') if isinstance(text, str) else made
 
 

@@ -12,8 +12,8 @@ from typing import Container, Dict, List, Match, Optional, Pattern, Tuple, Union
 
 from . import sets
 from .faults import QueryError
-from .tree import (Atom, Boundary, Capture, Choice, Concatenation, Definition, Expression, Formula, Group, Item, Join, Let, Minus, Name, One, Project,
-                   Query, Repeat, Test, Union_, Use, Word, nodes_of)
+from .tree import (Atom, Boundary, Capture, Choice, Concatenation, Definition, Expression, Formula, Group, Item, Join, Let, Listed, Minus, Name, One,
+                   Project, Query, Repeat, Test, Union_, Use, Word, nodes_of)
 
 __all__ = ['LONGEST_QUERY', 'query_fault', 'read']
 
@@ -36,6 +36,7 @@ _BYTE_ESCAPE = re.compile(rb'\\x([0-9A-Fa-f]{2})')
 _CHARACTER_ESCAPE = re.compile(rb'\\u\{([0-9A-Fa-f]{1,6})\}')
 _PROPERTY = re.compile(rb'\\p\{([A-Za-z0-9_]+)\}')
 _USE = re.compile(rb'%\{([A-Za-z_][A-Za-z0-9_]*)\}')
+_LISTED = re.compile(rb'%\{((?:[^{}/\\\x00-\x1f]|\\/)*\.(?:[^{}/\\\x00-\x1f]|\\/)*)\}')  # the name of a file, which has a point
 _MISMATCHES = re.compile(rb'~([0-9])\{(?![0-9]+(?:,[0-9]*)?\})')
 _CONTROLS = {ord('n'): 10, ord('t'): 9, ord('r'): 13}
 _PUNCTUATION = sets.members(((0x21, 0x2f), (0x3a, 0x40), (0x5b, 0x60), (0x7b, 0x7e)))
@@ -327,6 +328,10 @@ class _FormulaReader:
             self.use(used[1])
             self.at = used.end()
             return Use(used[1], start, self.at)
+        listed = _LISTED.match(self.text, start)
+        if listed is not None:
+            self.at = listed.end()
+            return Listed(listed[1].replace(rb'\/', b'/'), start, self.at)
         word = _MISMATCHES.match(self.text, start)
         if word is None:
             return None

@@ -6,8 +6,8 @@ from typing import Callable, Iterator, NamedTuple, Optional, Tuple, Union
 from . import sets
 from .sets import Ranges
 
-__all__ = ['Atom', 'Boundary', 'Capture', 'Choice', 'Concatenation', 'Definition', 'Expression', 'Formula', 'Group', 'Item', 'Join', 'Let', 'Minus',
-           'Name', 'One', 'Project', 'Query', 'Repeat', 'Test', 'Union_', 'Use', 'Word', 'captures_of', 'expressions_of', 'nodes_of', 'ones_of']
+__all__ = ['Atom', 'Boundary', 'Capture', 'Choice', 'Concatenation', 'Definition', 'Expression', 'Formula', 'Group', 'Item', 'Join', 'Let', 'Listed',
+           'Minus', 'Name', 'One', 'Project', 'Query', 'Repeat', 'Test', 'Union_', 'Use', 'Word', 'captures_of', 'expressions_of', 'nodes_of', 'ones_of']
 
 
 # -- Formulas
@@ -125,6 +125,14 @@ class Use(NamedTuple):
     end: int
 
 
+class Listed(NamedTuple):
+    """`%{FILE}`, one of the words in a file."""
+
+    name: bytes
+    start: int
+    end: int
+
+
 class Word(NamedTuple):
     """`~1{..}`, a word with mismatches: its units are signs, parts that are used, and repeats of these that are exact."""
 
@@ -141,7 +149,7 @@ class Boundary(NamedTuple):
     end: int
 
 
-Formula = Union[One, Concatenation, Choice, Group, Capture, Repeat, Use, Word, Boundary]
+Formula = Union[One, Concatenation, Choice, Group, Capture, Repeat, Use, Listed, Word, Boundary]
 
 
 class Atom(NamedTuple):

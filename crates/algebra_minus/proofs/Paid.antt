@@ -16,7 +16,7 @@ use Rattle.algebra.specs.Operations.{is_some_list}
 use Rattle.algebra.proofs.Bytes.{some_has}
 use Rattle.algebra_minus.specs.declared.search.Pair.{Pair}
 use Rattle.algebra_minus.specs.Found.{AreMade, IsFound}
-use Rattle.algebra_minus.specs.Steps.{IsPaid, IsPaidOnce, partition_steps}
+use Rattle.algebra_minus.specs.Steps.{IsPaid, IsPaidOnce, partition_room}
 use Rattle.algebra_minus.proofs.Searching.{has_ways}
 
 -- a set that is not empty has some byte
@@ -31,14 +31,14 @@ full_has bytes full = go (items bytes) refl
 pub paid_one : (before after c l n : ℕ) → before ≤ after + c → l < n → before + l * c ≤ after + n * c
 paid_one before after c l n cost more = omega (arith, cost, mul-le (l + 1) c n c (omega (arith, more)) (omega arith))
 
-pub paid : (B : Automaton) (before after : ℕ) (old new : List Way) → before ≤ after + partition_steps B → length old < length new → IsPaid B before old after new
-paid B before after old new cost more = paid_one before after (partition_steps B) (length old) (length new) cost more
+pub paid : (B : Automaton) (before after : ℕ) (old new : List Way) → before ≤ after + partition_room B → length old < length new → IsPaid B before old after new
+paid B before after old new cost more = paid_one before after (partition_room B) (length old) (length new) cost more
 
 -- where a way is refused
 pub paid_once : (A B : Automaton) (sets : List (List ℕ)) (keys : List Pair) (ways : List Way) (origin : ℕ → ℕ) (done place : ℕ) → AreDistinct keys → IsFound A B sets keys →
-    AreMade A B sets keys ways origin done place → (x : Way) (before after : ℕ) → before ≤ after + partition_steps B → IsPaidOnce A B before ways after
+    AreMade A B sets keys ways origin done place → (x : Way) (before after : ℕ) → before ≤ after + partition_room B → IsPaidOnce A B before ways after
 paid_once A B sets keys ways origin done place apart found made x before after cost most within =
-    sum (partition_steps B) (length ways) cost (within (length ways) (has_ways A B sets keys ways origin done place apart found made x))
+    sum (partition_room B) (length ways) cost (within (length ways) (has_ways A B sets keys ways origin done place apart found made x))
   where
     sum : (c l : ℕ) → before ≤ after + c → l ≤ most → before + l * c ≤ after + (1 + most) * c
     sum c l le few = omega (arith, le, mul-le (l + 1) c (1 + most) c (omega (arith, few)) (omega arith))
@@ -46,7 +46,7 @@ paid_once A B sets keys ways origin done place apart found made x before after c
 -- and after ways that are paid
 pub paid_then : (A B : Automaton) (before middle after : ℕ) (old ways : List Way) → IsPaid B before old middle ways → IsPaidOnce A B middle ways after → IsPaidOnce A B before old after
 paid_then A B before middle after old ways first second most within =
-    sum (length old * partition_steps B) (length ways * partition_steps B) ((1 + most) * partition_steps B) first (second most within)
+    sum (length old * partition_room B) (length ways * partition_room B) ((1 + most) * partition_room B) first (second most within)
   where
     sum : (o w m : ℕ) → before + o ≤ middle + w → middle + w ≤ after + m → before + o ≤ after + m
     sum o w m one two = omega (arith, one, two)

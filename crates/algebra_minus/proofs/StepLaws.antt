@@ -14,7 +14,7 @@ use Rattle.algebra_minus.specs.Counts.{IsMinusFault}
 use Rattle.algebra_minus.specs.Difference.{IsDifference}
 use Rattle.algebra_minus.specs.DifferenceOf.{difference_of}
 use Rattle.algebra_minus.specs.Found.{AreAllFollowed}
-use Rattle.algebra_minus.specs.Steps.{HasAtMostPairs, HasAtMostWays, IsMinusRefusal, IsPaid, IsPaidOnce, IsRefusedWithin, end_steps, most_steps, partition_steps, steps_with}
+use Rattle.algebra_minus.specs.Steps.{HasAtMostPairs, HasAtMostWays, IsMinusRefusal, IsPaid, IsPaidOnce, IsRefusedWithin, covering_steps, end_steps, most_steps, partition_room, partition_steps, steps_with}
 use Rattle.algebra_minus.proofs.Alike.{ways_have_bytes}
 use Rattle.algebra_minus.proofs.Counts.{counts_are_no_more}
 use Rattle.algebra_minus.proofs.DifferenceMade.{difference_made}
@@ -22,24 +22,45 @@ use Rattle.algebra_minus.proofs.Reducts.{reduct_of_difference}
 use Rattle.algebra_minus.proofs.Refused.{refused_of_reducts, refused_within}
 use Rattle.algebra_minus.proofs.Searching.{has_pairs, has_ways}
 
--- where the search is refused
-pub search_refused : (A B : Automaton) (before after : ℕ) → IsPaidOnce A B before [] after → (states ways : ℕ) → HasAtMostWays A B ways → before ≤ after + steps_with A B states ways
-search_refused A B before after once states ways few = sum (partition_steps B) ((1 + ways) * partition_steps B) (states * end_steps A B) (once ways few)
+-- a set and a block, and the states that cover the next
+parts_of : (B : Automaton) → partition_steps B ≡ partition_room B + covering_steps B
+parts_of B = omega arith
+
+-- one set and one block for each way and once more, in which are the states that cover the next
+with_covering : (A B : Automaton) (before after states ways : ℕ) → before ≤ after + ((1 + ways) * partition_room B + covering_steps B + states * end_steps A B) →
+    before ≤ after + steps_with A B states ways
+with_covering A B before after states ways le =
+    subst (λ p. before ≤ after + ((1 + ways) * p + states * end_steps A B)) (sym (parts_of B)) (sum (partition_room B) (covering_steps B) (states * end_steps A B) le)
   where
-    sum : (c w e : ℕ) → before + 0 * c ≤ after + w → before ≤ after + (w + e)
-    sum c w e le = omega (arith, le)
+    sum : (r c e : ℕ) → before ≤ after + ((1 + ways) * r + c + e) → before ≤ after + ((1 + ways) * (r + c) + e)
+    sum r c e l = omega (arith, l)
+
+-- where nothing is searched
+pub none_searched : (A B : Automaton) (before after : ℕ) → before ≤ after + covering_steps B → (states ways : ℕ) → before ≤ after + steps_with A B states ways
+none_searched A B before after le states ways = with_covering A B before after states ways (omega (arith, le))
+
+-- where the search is refused
+pub search_refused : (A B : Automaton) (before start after : ℕ) → before ≤ start + covering_steps B → IsPaidOnce A B start [] after → (states ways : ℕ) → HasAtMostWays A B ways →
+    before ≤ after + steps_with A B states ways
+search_refused A B before start after first once states ways few =
+    with_covering A B before after states ways (sum (partition_room B) ((1 + ways) * partition_room B) (covering_steps B) (states * end_steps A B) first (once ways few))
+  where
+    sum : (r w c e : ℕ) → before ≤ start + c → start + 0 * r ≤ after + w → before ≤ after + (w + c + e)
+    sum r w c e one two = omega (arith, one, two)
 
 -- where all is found, and the ends are tried
-pub search_done : (A B : Automaton) (sets : List (List ℕ)) (keys : List Pair) (made : List Way) (before middle after : ℕ) → IsPaid B before [] middle made → AreDistinct keys →
-    AreAllFollowed A B sets keys made → (x : Way) → middle ≤ after + length keys * end_steps A B → (states ways : ℕ) → HasAtMostPairs A B states → HasAtMostWays A B ways →
-    before ≤ after + steps_with A B states ways
-search_done A B sets keys made before middle after paid apart end x spent states ways few_pairs few_ways =
-    sum (partition_steps B) (end_steps A B) (length made) (length keys) paid spent
+pub search_done : (A B : Automaton) (sets : List (List ℕ)) (keys : List Pair) (made : List Way) (before start middle after : ℕ) → before ≤ start + covering_steps B →
+    IsPaid B start [] middle made → AreDistinct keys → AreAllFollowed A B sets keys made → (x : Way) → middle ≤ after + length keys * end_steps A B →
+    (states ways : ℕ) → HasAtMostPairs A B states → HasAtMostWays A B ways → before ≤ after + steps_with A B states ways
+search_done A B sets keys made before start middle after first paid apart end x spent states ways few_pairs few_ways =
+    with_covering A B before after states ways
+    (sum (partition_room B) (covering_steps B) (end_steps A B) (length made) (length keys) first paid spent
     (few_ways (length made) (has_ways A B sets keys made (end.made.0) (length keys) 0 apart end.found end.made.1 x))
-    (few_pairs (length keys) (has_pairs A B sets end.found.sets_are keys apart end.found.reached))
+    (few_pairs (length keys) (has_pairs A B sets end.found.sets_are keys apart end.found.reached)))
   where
-    sum : (c e w p : ℕ) → before + 0 * c ≤ middle + w * c → middle ≤ after + p * e → w ≤ ways → p ≤ states → before ≤ after + ((1 + ways) * c + states * e)
-    sum c e w p first second l m = omega (arith, first, second, mul-le w c (1 + ways) c (omega (arith, l)) (omega arith), mul-le p e states e m (omega arith))
+    sum : (r c e w p : ℕ) → before ≤ start + c → start + 0 * r ≤ middle + w * r → middle ≤ after + p * e → w ≤ ways → p ≤ states →
+        before ≤ after + ((1 + ways) * r + c + states * e)
+    sum r c e w p one two three l m = omega (arith, one, two, three, mul-le w r (1 + ways) r (omega (arith, l)) (omega arith), mul-le p e states e m (omega arith))
 
 -- the same of automata of which these are reducts
 module _ (A B : Marked) (A1 B1 : Marked) (a : IsGroupedOf A A1) (b : IsGroupedOf B B1) where

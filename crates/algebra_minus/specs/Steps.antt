@@ -12,6 +12,10 @@ use Rattle.algebra_minus.specs.DifferenceOf.{difference_of}
 abbrev pub partition_steps : Automaton → ℕ
 partition_steps B = 26000 + 6500 * B.states + 260 * length B.ways
 
+-- to find which states of the right side cover the next
+abbrev pub covering_steps : Automaton → ℕ
+covering_steps B = 32 * B.states + length B.ways
+
 -- to try the ends of A at one pair
 abbrev pub end_steps : Automaton → Automaton → ℕ
 end_steps A B = length A.stops * (1 + length B.stops)
@@ -42,11 +46,15 @@ HasAtMostPairs A B most = (n : ℕ) → HasPairs A B n → n ≤ most
 abbrev pub HasAtMostWays : Automaton → Automaton → ℕ → Type 0
 HasAtMostWays A B most = (n : ℕ) → HasWays A B n → n ≤ most
 
+-- what one set and one block have of that: the rest is for the states that cover the next
+abbrev pub partition_room : Automaton → ℕ
+partition_room B = 26000 + 6468 * B.states + 259 * length B.ways
+
 -- no more is taken than one partition costs for each way that is made
 abbrev pub IsPaid : Automaton → ℕ → List Way → ℕ → List Way → Type 0
-IsPaid B before old after new = before + length old * partition_steps B ≤ after + length new * partition_steps B
+IsPaid B before old after new = before + length old * partition_room B ≤ after + length new * partition_room B
 
 -- nor than for each way that there may be, and for one more
 abbrev pub IsPaidOnce : Automaton → Automaton → ℕ → List Way → ℕ → Type 0
 IsPaidOnce A B before old after =
-    (most : ℕ) → HasAtMostWays A B most → before + length old * partition_steps B ≤ after + (1 + most) * partition_steps B
+    (most : ℕ) → HasAtMostWays A B most → before + length old * partition_room B ≤ after + (1 + most) * partition_room B

@@ -5,6 +5,7 @@ pub use difference::{minus, minus_with_cause, minus_within};
 pub use fault::MinusFault;
 
 mod charge;
+mod covering;
 mod difference;
 mod fault;
 pub mod laws;
@@ -13,3 +14,5 @@ mod pieces;
 mod rows;
 mod search;
 mod stops;
+#[cfg(test)]
+mod tests;

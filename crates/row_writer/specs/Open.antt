@@ -1,5 +1,5 @@
 -- Lines of which one number is open: rows that differ in the end of one span have the same bytes before it and behind it.
-use Rattle.std.specs.Prelude.{◌≡◌, ℕ, zero, suc, List, [], ◌∷◌, ◌++◌, Option, Some, None, IfSome, length, slice_get, set, false}
+use Rattle.std.specs.Prelude.{◌≡◌, ℕ, zero, suc, ◌+◌, ◌-◌, ◌^◌, ◌<◌, ◌≤◌, List, [], ◌∷◌, ◌++◌, Option, Some, None, IfSome, length, take, slice_get, set, false}
 use Rattle.std.specs.Fmt.{decimal}
 use Rattle.span_core.specs.declared.span.Span.{Span}
 use Rattle.row_writer.specs.Kept.{Head, Line, cells_text, kept_text, line_end, styled_cell}
@@ -16,6 +16,13 @@ open_with front back = record { front = front; back = back }
 -- the line with a number
 abbrev pub open_text : Open → ℕ → List ℕ
 open_text o number = o.front ++ (decimal number ++ o.back)
+
+-- these bytes are the line with each of ten numbers from the first on, with the number's last digit in its place
+pub record AreTens (o : Open) (first digit len : ℕ) (bytes : List ℕ) : Type 0 where
+  pub within : digit < len
+  pub few : len ≤ 122
+  pub before : take (length o.front) bytes ≡ o.front
+  pub lines : (number : ℕ) → number < 2 ^ 32 → first ≤ number → number < first + 10 → take len (set bytes digit (48 + (number - first))) ≡ open_text o number
 
 -- for each end of the span at this place the line of the row is that with the number of the end
 abbrev pub IsOpenAt : Line → List (Option Span) → ℕ → List ℕ → Open → Type 0

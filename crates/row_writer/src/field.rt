@@ -141,7 +141,7 @@ impl Field {
             (self.old.head.before ++ (opening self.old.head.style ++ (decimal span.start ++ sign_of self.old.head.style ∷ []))) }
     {
         if span.start != self.span.start {
-            self.renew(span);
+            self.renew_start(span);
             return self.put_half(buffer, at);
         }
         self.put_half(buffer, at)
@@ -205,6 +205,19 @@ impl Field {
         self.len = len;
         self.span = span;
         self.whole = true;
+    }
+
+    /// Writes the start of a span.
+    #[inline(always)]
+    fn renew_start(&mut self, span: Span)
+        ensures head { self.new.head ≡ self.old.head }
+        ensures span { self.new.span ≡ span }
+    {
+        let end = put_number(span.start, &mut self.bytes, self.first);
+        let middle = put_byte(self.style.sign(), &mut self.bytes, end);
+        self.middle = middle;
+        self.span = span;
+        self.whole = false;
     }
 
     /// Writes the end of a span that starts where the last one did.

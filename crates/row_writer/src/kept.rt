@@ -10,7 +10,7 @@ ghost use Rattle.span_core.specs.declared.TheConstants.{MOST_VARIABLES};
 use crate::cells::put_fields;
 use crate::field::{FIELD_BYTES, Field};
 use crate::parted::{open_line, put_parted};
-use crate::run::{Beside, Run, find_beside, is_open_for};
+use crate::run::{Beside, OPENED_ROWS, Run, find_beside, find_likely, is_open_for};
 use crate::style::{Style, put_empty, put_line_end};
 use span_core::{MOST_VARIABLES, OutOfMemory, Span, VarSet};
 use std::alloc::Global;
@@ -20,7 +20,8 @@ use std::marker::Model;
 ///
 /// It is seen as how the line is written, and what stands before each of its cells. The fields are kept from one row to
 /// the next, so that of a row only the numbers that changed are made into digits. Where rows without texts differ in the
-/// end of one span alone, the bytes before that end and behind it are kept as they are, from the second such row on.
+/// end of one span alone, the bytes before that end and behind it are kept as they are, from the second such row on. The
+/// next few rows may well be the first of such rows too, and are written so that these bytes are kept from them on.
 #[derive(Drop)]
 pub struct KeptLine {
     fields: Vec<Field>,
@@ -93,6 +94,7 @@ impl KeptLine {
             last,
             place: 0,
             line: None,
+            to_open: 0,
         };
         Ok(KeptLine { fields, style, run })
     }
@@ -155,7 +157,7 @@ impl KeptLine {
         ensures text { take result buffer.new ≡ take at buffer.old ++ kept_text self.old spans.now doc.now false }
     {
         let Some(beside) = find_beside(self.run.last.as_slice(), spans) else {
-            return self.put_other(spans, doc, buffer, at);
+            return self.put_new(spans, doc, buffer, at);
         };
         if beside.place == self.run.place {
             if let Some(line) = &self.run.line {
@@ -188,6 +190,7 @@ impl KeptLine {
         ensures text { MatchOption result (take at buffer.new ≡ take at buffer.old) (λ e. take e buffer.new
             ≡ take at buffer.old ++ flat_map (λ end. kept_text self.old (row_to spans.now place end) doc.now false) ends.now) }
     {
+        self.run.to_open = OPENED_ROWS;
         let beside = Beside { place, span };
         if let Some(end) = self.put_open(spans, beside, ends, doc, buffer, at) {
             return Some(end);
@@ -224,7 +227,24 @@ impl KeptLine {
         Some(line.put_all(ends, buffer, at))
     }
 
-    /// Writes the line of a row that is not beside the last one.
+    /// Writes the line of a row that is not beside the last one. It is open at once where rows in runs were written not long before.
+    fn put_new(&mut self, spans: &[Option<Span>], doc: &[u8], buffer: &mut [u8], at: usize) -> usize
+        requires some { 0 < length spans.now }
+        requires lengths { length spans.now ≡ length self.old.heads }
+        requires inside { IsTrue (list_all (ends_by (length doc.now)) spans.now) }
+        requires room { at + line_room false self.old.heads spans.now ≤ length buffer.old }
+        ensures line { self.new ≡ self.old }
+        ensures end { result ≤ at + line_room false self.old.heads spans.now }
+        ensures text { take result buffer.new ≡ take at buffer.old ++ kept_text self.old spans.now doc.now false }
+    {
+        let Some(beside) = find_likely(&self.run, spans) else {
+            return self.put_other(spans, doc, buffer, at);
+        };
+        self.run.to_open -= 1;
+        self.put_first(spans, beside, doc, buffer, at)
+    }
+
+    /// Writes the line of a row, with which none is open.
     fn put_other(
         &mut self,
         spans: &[Option<Span>],
@@ -247,7 +267,7 @@ impl KeptLine {
         end
     }
 
-    /// Writes the line of a row beside the last one, with which the lines of a run are open at the end of its span.
+    /// Writes the line of a row, with which the lines of a run are open at the end of its span.
     fn put_first(
         &mut self,
         spans: &[Option<Span>],

@@ -5,6 +5,7 @@ ghost use Rattle.std.specs.Fmt.{decimal};
 ghost use Rattle.cell_text.specs.Cells.{ends_by};
 ghost use Rattle.row_writer.specs.Kept.{cells_text, heads_of};
 ghost use Rattle.row_writer.specs.Open.{before_end, behind_end, open_with};
+ghost use Rattle.row_writer.specs.declared.open.TheConstants.{BACK_BYTES, FRONT_BYTES};
 
 use crate::cells::{put_kept, put_rest};
 use crate::field::Field;
@@ -83,10 +84,16 @@ fn put_cells(
 pub(crate) fn open_line(buffer: &[u8], at: usize, parts: Parts, end: usize) -> Option<OpenLine>
     requires before { at ≤ parts.front }
     requires behind { parts.number ≤ end }
-    requires between { parts.front ≤ parts.number }
-    requires inside { end ≤ length buffer.now }
+    requires front { at + FRONT_BYTES ≤ length buffer.now }
+    requires back { parts.number + BACK_BYTES ≤ length buffer.now }
     ensures { IfSome result (λ o. o ≡ open_with (take (parts.front - at) (drop at buffer.now))
         (take (end - parts.number) (drop parts.number buffer.now))) }
 {
-    OpenLine::of(&buffer[at..parts.front], &buffer[parts.number..end])
+    OpenLine::taken(
+        buffer,
+        at,
+        parts.front - at,
+        parts.number,
+        end - parts.number,
+    )
 }

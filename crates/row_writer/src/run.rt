@@ -6,13 +6,17 @@ ghost use Rattle.row_writer.specs.Open.{IsAlike, IsBeside};
 use crate::open::OpenLine;
 use span_core::Span;
 
+/// How many rows are opened as they come once a row had other ends.
+pub(crate) const OPENED_ROWS: u32 = 4;
+
 /// The row that was written last but by an open line, and that line, where the rows differ in the end of the span at this
-/// place alone.
+/// place alone. `to_open` counts the rows that are opened there as they come, since some of those before had other ends.
 #[derive(Drop)]
 pub(crate) struct Run {
     pub last: Vec<Option<Span>>,
     pub place: usize,
     pub line: Option<OpenLine>,
+    pub to_open: u32,
 }
 
 /// A row that has another end of the span at this place.
@@ -42,6 +46,24 @@ pub(crate) fn find_beside(last: &[Option<Span>], spans: &[Option<Span>]) -> Opti
         return None;
     }
     Some(Beside { place, span })
+}
+
+/// Where a row that is not beside the last one is opened as it comes: at the place of the last run.
+#[inline(always)]
+pub(crate) fn find_likely(run: &Run, spans: &[Option<Span>]) -> Option<Beside>
+    ensures some { IfSome result (λ b. 0 < run.now.to_open) }
+    ensures span { IfSome result (λ b. slice_get spans.now b.place ≡ Some (Some b.span)) }
+{
+    if run.to_open == 0 || run.place >= spans.len() {
+        return None;
+    }
+    let Some(span) = spans[run.place] else {
+        return None;
+    };
+    Some(Beside {
+        place: run.place,
+        span,
+    })
 }
 
 /// Whether the line that is open, if one is, is that of a row at the end of its span at this place.

@@ -7,6 +7,7 @@ ghost use Rattle.whole_program.specs.declared.TheConstants.{MOST_REQUESTS};
 pub use all::run_all;
 
 mod all;
+pub mod laws;
 #[cfg(test)]
 mod serving_tests;
 

@@ -23,9 +23,11 @@ from .output import fault_of_output, output, written
 from .packed import Given, reach_of_long, too_long
 from .progress import Progress
 from .forms import DOCUMENT_FORMS, Form, refuse
+from .listed import Lists, texts_of_parts
+from .merged import SplitQuery
 from .jobs import Part, done_in_order, parts_of_documents, read_aside, written_aside
 from .row_doubts import MOST_SEEN, doubts_of_rows
-from .words import OTHER_FORMS, Words, read_words
+from .words import LIST_FORMS, OTHER_FORMS, Words, read_words
 
 __all__ = ['Command', 'main']
 
@@ -58,7 +60,8 @@ class Command:
         self.has_failed = False  # whether a document could not be read, where there are several
         self.status = 0
         self.afterwards: List[Callable[[], None]] = []  # what is done once the output is whole
-        self.expansion: Expanded = expanded(in_form(read_source(given), given.normal))
+        self.lists = Lists(os.path.dirname(given.name) if given.name not in (None, '-') else '', given.normal)
+        self.expansion: Expanded = expanded(in_form(read_source(given), given.normal), self.lists)
         self.has_anchors = has_anchors_alone(self.expansion.source)
         self.has_told_of_rows = False
         self.is_converted = bool(given.encoding or given.normal)
@@ -78,8 +81,11 @@ class Command:
         if self.given.list is not None:
             from .wordlist import ListQuery, words_of
             with open(self.given.list, 'rb') as file:
-                return ListQuery(words_of(file.read(), self.given.list), **words)
-        text = self.read_text()
+                return ListQuery(words_of(in_form(file.read(), self.given.normal), self.given.list), **words)
+        texts = texts_of_parts(self.expansion.source, self.lists, self.read_text)
+        if len(texts) > 1:
+            return self.read_parts(texts, words)
+        text = texts[0]
         make = Query
         if len(self.names) >= _MANY and not self.given.filter and self.given.max_table is None and self.given.form not in _WHOLE:
             from .small import SmallDocuments
@@ -89,15 +95,25 @@ class Command:
         except QueryError as fault:
             raise self.expansion.fault(fault) from None
         if self.asks_for_lines() and not query.variables:
-            made = captured(self.expansion.source, b'match')
+            made = captured(self.expansion.source, b'match', self.lists)
             if made is None:
                 refuse('the query has no capture, so no row has a place: put !name{..} around what the lines have')
             query = make(made.text, **words)
         return query
 
+    def read_parts(self, texts: List[bytes], words: Dict[str, Any]) -> Query:
+        """The query, of which the list is cut since it is too long for one."""
+        if self.given.form not in (*LIST_FORMS, 'check'):
+            refuse(f'the list is too long for one query, and {self.given.form} takes one: give it shorter lists')
+        query = SplitQuery(texts, **words)
+        if self.asks_for_lines() and not query.variables:
+            refuse('the list is too long for one query, so the query needs a capture: put !name{..} around what the lines have')
+        return query
+
     def read_text(self) -> bytes:
-        """The query as the program reads it, with its open letters where they are asked for."""
-        text = self.expansion.text
+        """The query as the program reads it, with its open letters where they are asked for, and the words of its lists that are taken."""
+        is_whole = self.lists.part == slice(None)
+        text = self.expansion.text if is_whole else expanded(self.expansion.source, self.lists).text
         if not self.given.iupac:
             return text
         try:
@@ -335,12 +351,14 @@ class Command:
 
     def check(self) -> None:
         if self.given.expanded:
-            text = self.read_text() if self.given.iupac else self.expansion.text
-            self.out.write(text.decode('utf-8', 'surrogateescape') + ('' if text.endswith(b'\n') else '\n'))
+            for text in texts_of_parts(self.expansion.source, self.lists, self.read_text):
+                self.out.write(text.decode('utf-8', 'surrogateescape') + ('' if text.endswith(b'\n') else '\n'))
             return
         self.out.write(self.query.explanation)
+        if isinstance(self.query, SplitQuery):
+            self.out.write(f'the list is too long for one query: of {len(self.query.parts)} queries this is the first\n')
         if self.expansion.text != self.expansion.source:
-            self.out.write('the program reads no comments, parts, i, m, \\b or ~1{..}: rematch-to writes them out, and --expanded shows what the program reads\n')
+            self.out.write('the program reads no comments, parts, lists, i, m, \\b or ~1{..}: rematch-to writes them out, and --expanded shows what the program reads\n')
         try:
             self.out.write(f'reach {reach(self.query)} line feeds\n')
         except NoReach as reason:

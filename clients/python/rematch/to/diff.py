@@ -14,6 +14,7 @@ from ..reader import read
 from .command import run_told
 from .convert import Command
 from .jobs import Part
+from .merged import SplitQuery
 from .output import fault_of_output, output
 from .packed import Given
 from .progress import Progress
@@ -52,7 +53,8 @@ class _Side:
 def rows_without(left: _Side, right: _Side, found: Given) -> Iterator[Row]:
     """The rows of one query that another has not, once each, in their order: by `minus`, or where that cannot be, all are compared."""
     text = None
-    if _is_one_expression(left.query.text) and _is_one_expression(right.query.text):
+    are_cut = isinstance(left.query, SplitQuery) or isinstance(right.query, SplitQuery)
+    if not are_cut and _is_one_expression(left.query.text) and _is_one_expression(right.query.text):
         text = b'(%s) minus (%s)' % (_kept(left.query.text, left.names), _kept(right.query.text, right.names))
     if text is not None:
         try:

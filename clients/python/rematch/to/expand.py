@@ -7,6 +7,7 @@ r"""Query texts with conveniences, which are written out before the program sees
 - `\b` at an end of a formula is an edge of a word: the document's edge or a byte outside `\w`.
 - `part ip = /[\\d.]+/;` names a part of formulas, which is used in those after it as `%{ip}`, a group.
 - `~1{TATAAT}` in a formula is a word with at most so many letters other than these, 1 to 9.
+- `%{words.txt}` in a formula is one of the words in that file, whose name has a point.
 
 A text that has none of them is passed on byte for byte. The program's language is as it is: what it reads is the text
 that `rematch-to check --expanded` shows.
@@ -20,9 +21,10 @@ from typing import Dict, Iterator, List, NamedTuple, Optional, Sequence, Tuple, 
 from ..advice import Advice, advise
 from ..faults import QueryError
 from ..reader import LONGEST_QUERY, query_fault, read
-from ..tree import (Atom, Boundary, Capture, Choice, Concatenation, Definition, Formula, Group, One, Query, Repeat, Union_, Use, Word, expressions_of,
-                    nodes_of)
+from ..tree import (Atom, Boundary, Capture, Choice, Concatenation, Definition, Formula, Group, Listed, One, Query, Repeat, Union_, Use, Word,
+                    expressions_of, nodes_of, ones_of)
 from .cases import both_cases, one_case
+from .listed import Lists
 from .mismatches import MOST_UNITS, Unit, units_written, with_mismatches
 
 __all__ = ['Expanded', 'captured', 'expanded']
@@ -35,6 +37,7 @@ class Expanded:
         self.source = source
         self.advice: List[Advice] = []  # on its conveniences, at places of the source
         self.length = 0
+        self.longest = 4 * LONGEST_QUERY  # bytes of the text
         self.has_document_anchors = False  # whether an anchor is of the document and not of its lines
         self._pieces: List[bytes] = []
         self._starts: List[int] = []  # of each piece, in the text
@@ -47,7 +50,7 @@ class Expanded:
             self._starts.append(self.length)
             self._origins.append((origin, is_same))
             self.length += len(piece)
-        if self.length > 4 * LONGEST_QUERY:
+        if self.length > self.longest:
             raise query_fault(f'longer than {LONGEST_QUERY} bytes', self.source)
 
     @property
@@ -76,8 +79,10 @@ class Expanded:
         return told
 
 
-def expanded(text: Union[str, bytes]) -> Expanded:
+def expanded(text: Union[str, bytes], lists: Optional[Lists] = None) -> Expanded:
     r"""The text that the program reads for a text with conveniences; `QueryError` for a text that cannot be read.
+
+    Files of words are read where ``lists`` says from where.
 
     >>> expanded('/Err[o]/i # a fault').text
     b'/[Ee][Rr][Rr][Oo]/ '
@@ -88,10 +93,10 @@ def expanded(text: Union[str, bytes]) -> Expanded:
     >>> expanded('/100%{2}/').text
     b'/100%{2}/'
     """
-    return _Writer(read(text, conveniences=True)).written()
+    return _Writer(read(text, conveniences=True), lists=lists).written()
 
 
-def captured(text: Union[str, bytes], name: bytes) -> Optional[Expanded]:
+def captured(text: Union[str, bytes], name: bytes, lists: Optional[Lists] = None) -> Optional[Expanded]:
     r"""As `expanded`, with all of each formula captured, of a text without a capture; None where that would mean something else.
 
     What `m` and `\b` write beside a formula is outside of its capture.
@@ -103,7 +108,7 @@ def captured(text: Union[str, bytes], name: bytes) -> Optional[Expanded]:
     query = read(text, conveniences=True)
     if query.lets or query.tests or not all(isinstance(found, (Atom, Union_)) for found in expressions_of(query.body)):
         return None
-    return _Writer(query, name).written()
+    return _Writer(query, name, lists).written()
 
 
 class _Place(NamedTuple):
@@ -111,17 +116,20 @@ class _Place(NamedTuple):
 
     is_both_cases: bool
     used_at: Optional[int]  # the place of the use, of what is written in a part
+    is_over_characters: bool = False
     is_first: bool = False  # whether it begins where the formula of the atom begins
     is_last: bool = False
 
 
 class _Writer:
-    def __init__(self, query: Query, capture: bytes = b'') -> None:
+    def __init__(self, query: Query, capture: bytes = b'', lists: Optional[Lists] = None) -> None:
         self.query = query
+        self.lists = lists
         self.capture = capture  # the name by which each formula is captured; empty where none is
         self.source = query.text
         self.parts: Dict[bytes, Definition] = {part.name: part for part in query.definitions}
         self.found = Expanded(query.text)
+        self.found.longest *= 1 if lists is None else 64
 
     def written(self) -> Expanded:
         for definition in self.query.definitions:
@@ -170,7 +178,7 @@ class _Writer:
             opening, closing = b'(', b')'
         self.found.add(b'/', atom.start)
         self.found.add(begin + opening, atom.start + 1, is_same=False)
-        self.formula(arm, _Place(b'i' in atom.flags, None, is_first=True, is_last=True))
+        self.formula(arm, _Place(b'i' in atom.flags, None, atom.is_over_characters, is_first=True, is_last=True))
         last = atom.end - len(atom.flags) - 1  # of the closing slash
         self.found.add(closing + end, last - atom.is_last, is_same=False)
         self.found.add(b'/' + b'u' * atom.is_over_characters, last, is_same=False)
@@ -229,6 +237,8 @@ class _Writer:
         elif isinstance(node, Word):
             word = with_mismatches(self.units_of_word(node, place), node.most)
             self.found.add(word, node.start if place.used_at is None else place.used_at, is_same=False)
+        elif isinstance(node, Listed):
+            self.found.add(self.listed(node, place), node.start if place.used_at is None else place.used_at, is_same=False)
         else:
             self.boundary(node, place)
 
@@ -255,6 +265,20 @@ class _Writer:
         self.formula(part.atom.formula, place._replace(is_both_cases=place.is_both_cases or b'i' in part.atom.flags, used_at=used_at))
         self.found.add(b')', node.start, is_same=False)
 
+    def listed(self, node: Listed, place: _Place) -> bytes:
+        """The words of a file, as a group."""
+        if self.lists is None:
+            raise query_fault('unexpected', self.source, node.start, 'a list of words is read from a file by rematch-to and rematch-piece, and by '
+                                                                     'rematch.expand in Python where folder= says from where')
+        formula = self.lists.formula(node, self.source, is_over_characters=place.is_over_characters)
+        if place.is_both_cases:
+            self.tell_one_case_of_list(node)
+            flags = b'u' * place.is_over_characters
+            ones = list(ones_of(read(b'/%b/%b' % (formula, flags), is_limited=False).atoms[0].formula))
+            for one in reversed(ones):
+                formula = formula[:one.start - 1] + both_cases(one) + formula[one.end - 1:]
+        return b'(' + formula + b')'
+
     def boundary(self, node: Boundary, place: _Place) -> None:
         """Writes nothing: what is beside the formula is written at its ends."""
         if not (place.is_first or place.is_last):
@@ -266,6 +290,13 @@ class _Writer:
         if not any(advice.message.startswith('i is for') for advice in self.found.advice):
             told = one_case(node)
             self.found.advice += [told] if told else []
+
+    def tell_one_case_of_list(self, node: Listed) -> None:
+        assert self.lists is not None
+        letters = ''.join(self.lists.words(node.name, self.source, node.start))
+        letter = next((letter for letter in letters if not letter.isascii() and letter.lower() != letter.upper()), None)
+        if letter is not None:
+            self.found.advice.append(Advice(node.start, f'i is for the letters of ASCII, and {letter} in the list stays as it is: put both cases into the list'))
 
     # Words with mismatches
 
@@ -311,7 +342,7 @@ class _Writer:
 
 
 def _is_convenience(node: Formula) -> bool:
-    return isinstance(node, (Use, Word, Boundary))
+    return isinstance(node, (Use, Listed, Word, Boundary))
 
 
 def _plain_mismatches(node: Concatenation) -> Iterator[Advice]:

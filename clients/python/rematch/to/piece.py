@@ -1,6 +1,7 @@
 """``rematch-cut`` and ``rematch-piece``: the pieces of a document, and the rows of one, as commands."""
 from __future__ import annotations
 
+import os
 import sys
 from argparse import ArgumentParser
 from typing import List, Optional, Sequence, Tuple
@@ -11,6 +12,7 @@ from ..pieces import cuts, rows_of_piece
 from ..query import Query
 from .command import run_told
 from .expand import expanded
+from .listed import Lists
 
 __all__ = ['cut_main', 'piece_main']
 
@@ -50,7 +52,7 @@ def cut_main(words: Optional[List[str]] = None) -> int:
 def expanded_query(path: str) -> Query:
     """The query of a file, whose conveniences are written out; a fault is at its place in the file."""
     with open(path, 'rb') as file:
-        found = expanded(file.read())
+        found = expanded(file.read(), Lists(os.path.dirname(path)))
     try:
         return Query(found.text)
     except QueryError as fault:

@@ -2,23 +2,24 @@
 from __future__ import annotations
 
 import os
+import re
 from heapq import merge
 from itertools import islice
-from typing import Any, Dict, Iterator, List, Optional, Sequence, Tuple
+from typing import Any, Dict, Iterator, List, Optional, Sequence
 
 from ..documents import Source, open_document
-from ..faults import QueryError, SizeError
+from ..faults import QueryError
 from ..match import Row
 from ..query import Query
-from ..reader import read
-from ..tree import ones_of
+from .merged import SplitQuery
 
-__all__ = ['ListQuery', 'formula_of', 'queries_of', 'words_of']
+__all__ = ['ListQuery', 'formula_in_bytes', 'formula_of', 'queries_of', 'weight_of', 'words_of']
 
 _MOST_SIGNS, _MOST_BYTES = 17_000, 60_000  # of the formula of one query: its automaton has less than 20,000 states
 _MOST_OPEN = 90  # groups within each other
 _LONGEST = 1000  # bytes of a word
 _EDGE = 4  # bytes of a character beside a word
+_SIGN = re.compile(rb'\\x..|\\[pu]\{\w+\}|\\.|\[(?:[^\]\\]|\\.)*\]|[^()|?*+{}/]')  # of a query, and the letters between its formulas
 _PUNCTUATION = frozenset('!"#$%&\'()*+,-./:;<=>?@[\\]^_`{|}~') - {'_'}
 
 
@@ -81,6 +82,16 @@ def _arms(words: Sequence[str], depth: int) -> List[str]:
     return [(_sign(letters[0]) if len(letters) == 1 else '[' + ''.join(map(_sign, letters)) + ']') + tail for tail, letters in tails.items()]
 
 
+def formula_in_bytes(words: Sequence[str]) -> str:
+    r"""The same for a formula over bytes, where a class has single bytes alone.
+
+    >>> formula_in_bytes(['é', 'è'])
+    '\\xc3[\\xa8\\xa9]'
+    """
+    formula = formula_of(sorted(word.encode('utf-8').decode('latin-1') for word in words))
+    return re.sub('[\x80-\xff]', lambda sign: f'\\x{ord(sign[0]):02x}', formula)
+
+
 def queries_of(words: Sequence[str]) -> List[str]:
     r"""The queries of the words, whose variable is `word`; before and behind each there is no other letter.
 
@@ -95,7 +106,7 @@ def queries_of(words: Sequence[str]) -> List[str]:
 def _formulas(words: Sequence[str]) -> Iterator[str]:
     """The formulas of the words, as many as it takes."""
     formula = formula_of(words)
-    if len(words) == 1 or (len(formula.encode()) <= _MOST_BYTES and _signs_of(formula) <= _MOST_SIGNS):
+    if len(words) == 1 or weight_of(f'/{formula}/u'.encode()) <= 1:
         yield formula
         return
     middle = len(words) // 2
@@ -103,18 +114,23 @@ def _formulas(words: Sequence[str]) -> Iterator[str]:
     yield from _formulas(words[middle:])
 
 
-def _signs_of(formula: str) -> int:
-    """How many signs and classes a formula has; of what is past ASCII each byte counts.
+def weight_of(text: bytes) -> float:
+    """How large a query with a list is, where 1 is the most that one should be."""
+    return max(len(text) / _MOST_BYTES, _signs_of(text) / _MOST_SIGNS)
 
-    >>> _signs_of('ab(ate|bey(s)?)'), _signs_of('[ai]s'), _signs_of('é')
-    (9, 2, 2)
+
+def _signs_of(text: bytes) -> int:
+    """About how many signs and classes a query has; of what is past ASCII each byte counts.
+
+    >>> _signs_of(b'/ab(ate|bey(s)?)/'), _signs_of(rb'/[ai]\\.[\\]a]/'), _signs_of('/é/u'.encode())
+    (9, 3, 3)
     """
-    return sum(1 if one.text.isascii() else len(one.text) for one in ones_of(read(f'/{formula}/u').atoms[0].formula))
+    return sum(1 if sign.isascii() else len(sign) for sign in _SIGN.findall(text))
 
 
 # -- The rows of several queries
 
-class ListQuery(Query):
+class ListQuery(SplitQuery):
     """The queries of a list of words as one: their rows together, in the order of the document.
 
     >>> query = ListQuery(['on', 'one', 'tone'])
@@ -123,9 +139,7 @@ class ListQuery(Query):
     """
 
     def __init__(self, listed: Sequence[str], **words: Any) -> None:
-        texts = queries_of(listed)
-        super().__init__(texts[0], **words)
-        self.parts = [Query(text, **words) for text in texts]
+        super().__init__([text.encode() for text in queries_of(listed)], **words)
         self._longest = max(len(word.encode()) for word in listed) + _EDGE
 
     def rows(self, document: Source, *, after: str = 'start', limit: Optional[int] = None) -> Iterator[Row]:
@@ -150,15 +164,8 @@ class ListQuery(Query):
         rows = ((row[0] + shift, row[1] + shift) for part in self.parts for row in part.rows(tail))
         return sorted(row for row in rows if row[1] == len(data) and row[0] > 0)
 
-    def close(self) -> None:
-        """Nothing is open between two documents."""
-
     def count(self, document: Source) -> int:
         """How many rows there are."""
         opened = open_document(document)
         data: Any = opened.data
         return sum(part.count(opened) for part in self.parts) + len(self._at_start(data)) + len(self._at_end(data))
-
-    def any(self, document: Source, *, after: str = 'start') -> bool:
-        """Whether there is a row."""
-        return next(self.rows(document), None) is not None

@@ -7,7 +7,7 @@ from typing import Any, Dict, List, NamedTuple, NoReturn, Optional, Sequence, Tu
 
 from .names import document_names
 
-__all__ = ['FORMS', 'OTHER_FORMS', 'DIFF_EXAMPLES', 'SQL_EXAMPLES', 'Words', 'hint_of_program_words', 'hint_of_words', 'read_words']
+__all__ = ['FORMS', 'LIST_FORMS', 'OTHER_FORMS', 'DIFF_EXAMPLES', 'SQL_EXAMPLES', 'Words', 'hint_of_program_words', 'hint_of_words', 'read_words']
 
 
 class Form(NamedTuple):
@@ -93,8 +93,8 @@ OTHER_FORMS: Dict[str, Form] = {
 _TABLES, _PLACES = ('csv', 'tsv', 'follow'), ('bed', 'gff', 'fasta')
 _JOBS = ('csv', 'tsv', 'json', 'kwic', 'lines', 'count', 'freq', *_PLACES)
 _FIRST = ('csv', 'tsv', 'json', 'kwic', 'lines', 'freq')
-_LISTS = (*_FIRST, 'parquet', 'count', 'any', 'html')
-_TEXTS = (*_LISTS, 'ann', 'why')
+LIST_FORMS = (*_FIRST, 'parquet', 'count', 'any', 'html')
+_TEXTS = (*LIST_FORMS, 'ann', 'why')
 
 
 class _Option(NamedTuple):
@@ -108,7 +108,7 @@ def _option(name: str, forms: Sequence[str], **words: Any) -> _Option:
 
 
 _OPTIONS = (
-    _option('--words', _LISTS, dest='list', metavar='FILE', help='the words of this file, one on each line, in place of a query; the variable is word'),
+    _option('--words', LIST_FORMS, dest='list', metavar='FILE', help='the words of this file, one on each line, in place of a query; the variable is word'),
     _option('-o', (), dest='out', metavar='NAME', help='write there; for ann of several documents a folder'),
     _option('-r', (), dest='is_deep', action='store_true', help='the files below each DOC that is a folder (.)'),
     _option('--glob', (), dest='patterns', action='append', metavar='PATTERN', help='with -r: files of these names alone, as *.log'),
@@ -158,8 +158,8 @@ _OPTIONS = (
 )
 
 _QUERY = ('The query may have comments (# to the end of the line), after the closing slash i for both cases of ASCII letters and m for ^ and $ of '
-          'lines, \\b at the ends of a formula for edges of words, named parts (part ip = /[\\d.]+/; is used in a formula as %%{ip}), and words with '
-          'mismatches: ~1{TATAAT} is a word with at most one letter other than these.')
+          'lines, \\b at the ends of a formula for edges of words, named parts (part ip = /[\\d.]+/; is used in a formula as %%{ip}), lists '
+          '(%%{words.txt} is one of the words in that file), and words with mismatches: ~1{TATAAT} is a word with at most one letter other than these.')
 _EXAMPLES = """examples:
   rematch-to lines -e '/Failed password for !user{\\w+} from/' auth.log
   rematch-to freq --var user -q failed.query auth.log* | head

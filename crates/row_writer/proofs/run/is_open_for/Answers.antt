@@ -1,4 +1,4 @@
-use Rattle.std.proofs.Common.{◌<◌, ◌≤◌, length, Some, arith}
+use Rattle.std.proofs.Common.{◌<◌, ◌≤◌, length, arith}
 use Rattle.row_writer.proofs.RowsBeside.{found}
 use Rattle.row_writer.proofs.EndsLines.{alike_with}
 use Rattle.row_writer.proofs.run.is_open_for.Goals as goal

@@ -1,4 +1,4 @@
-use Rattle.std.proofs.Common.{◌≡◌, ◌≤◌, ◌++◌, ℕ, List, length, take, false, sym, ap, ◌∙◌, arith}
+use Rattle.std.proofs.Common.{rules, ◌≡◌, ◌≤◌, ◌++◌, ℕ, List, length, take, false, ap, ◌∙◌, arith}
 use Rattle.std.specs.List.{flat_map}
 use Rattle.enumerator.specs.Ends.{row_to}
 use Rattle.row_writer.specs.Kept.{Line, kept_text}
@@ -26,6 +26,7 @@ returns-clause-text c =
     let up : at ≤ c.put_first-end.result = rises b0 b1 _ c.put_first-end.ensures.text inside in
     let same : at ≤ at = omega arith in
     let front : take at b1 ≡ take at c.args.buffer.now = front_kept at at c.put_first-end.result b0 b1 _ same up inside c.put_first-end.ensures.text ∙ ap (take at) c.in_default.ensures.end in
+    let line : c.put_first-end.new.self ≡ c.args.self.now = search rules in
     let text : Line → List ℕ = λ kept. flat_map (λ end. kept_text kept (row_to c.args.spans.now c.args.place end) c.args.doc.now false) c.args.ends.now in
     told_before c.put_open-2.result c.put_open-2.ensures.text (λ e. ap (take at) e ∙ front)
-    (λ e h. h ∙ ap (λ (xs : List ℕ). xs ++ text c.put_first-end.new.self) front ∙ ap (λ (kept : Line). take at c.args.buffer.now ++ text kept) c.put_first-end.ensures.line)
+    (λ e h. h ∙ ap (λ (xs : List ℕ). xs ++ text c.put_first-end.new.self) front ∙ ap (λ (kept : Line). take at c.args.buffer.now ++ text kept) line)

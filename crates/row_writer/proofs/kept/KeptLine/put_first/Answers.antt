@@ -30,9 +30,12 @@ open_line-self-inside-requires-clause-behind c =
     rises c.put_parted-parts.new.buffer _ _ c.put_line_end-end.ensures.text (omega (arith, room_bare c.args.self.now.heads c.args.spans.now c.requires.lengths)) in
     omega (arith, low)
 
-pub open_line-self-inside-requires-clause-inside : goal.open_line-self-inside-requires-clause-inside
-open_line-self-inside-requires-clause-inside c =
-    omega (arith, c.put_line_end-end.ensures.end, c.put_parted-parts.ensures.end, c.requires.room, room_bare c.args.self.now.heads c.args.spans.now c.requires.lengths)
+pub open_line-self-inside-requires-clause-front : goal.open_line-self-inside-requires-clause-front
+open_line-self-inside-requires-clause-front c = omega (arith, c.requires.room, room_bare c.args.self.now.heads c.args.spans.now c.requires.lengths)
+
+pub open_line-self-inside-requires-clause-back : goal.open_line-self-inside-requires-clause-back
+open_line-self-inside-requires-clause-back c =
+    omega (arith, c.put_parted-parts.ensures.end, c.put_parted-parts.ensures.behind, c.requires.room, room_bare c.args.self.now.heads c.args.spans.now c.requires.lengths)
 
 pub returns-clause-end : goal.returns-clause-end
 returns-clause-end c = omega (arith, c.put_line_end-end.ensures.end, c.put_parted-parts.ensures.end, room_bare c.args.self.now.heads c.args.spans.now c.requires.lengths)
