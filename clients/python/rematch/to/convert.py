@@ -449,6 +449,9 @@ def main(words: Optional[Iterable[str]] = None) -> int:
         with ExitStack() as stack:
             command = Command(given, sys.stdout, stack.enter_context(Progress()))
             stack.callback(command.close)
+            fault = None if is_folder(given.out) else fault_of_output(given.out, command.lists.paths)
+            if fault is not None:
+                refuse(fault)
             command.out = stack.enter_context(output(None if is_folder(given.out) else given.out, comes_at_once=given.form == 'follow'))
             command.run()
         for act in command.afterwards:
