@@ -94,8 +94,7 @@ def cuts(path: Path, size: int) -> Iterator[Piece]:
             end = min(start + size, total)
             if end < total:
                 file.seek(end - 1)
-                file.readline()
-                end = min(file.tell(), total)
+                end = min(_line_end(file, end - 1), total)
             yield Piece(start, end)
             start = end
             if start >= total:
@@ -125,11 +124,20 @@ def _lines_on(file: IO[bytes], at: int, lines: int) -> int:
     """The end of the line that is so many lines behind that of a place, or of the file."""
     file.seek(at)
     for _ in range(lines + 1):
-        line = file.readline()
-        at += len(line)
-        if not line:
+        end = _line_end(file, at)
+        if end == at:
             break
+        at = end
     return at
+
+
+def _line_end(file: IO[bytes], at: int) -> int:
+    """The end of the line at this place, which is the file's own, or of the file. However long the line is, one block of it is held."""
+    while True:
+        part = file.readline(_BLOCK)
+        at += len(part)
+        if len(part) < _BLOCK or part.endswith(b'\n'):
+            return at
 
 
 def rows_of_piece(query: Query, path: Path, start: int, end: int, lines: Optional[int] = None) -> Iterator[Row]:

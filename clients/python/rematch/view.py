@@ -375,6 +375,8 @@ def section(document: Document, names: Sequence[str], rows: Sequence[Row], of: O
     """
     view = _View(document, names, rows, first, most)
     told = f'{len(rows)} row{"s" * (len(rows) != 1)}' + (f' of {of}' if of is not None and of > len(rows) else '')
+    if rows and not view.data[:].isascii():
+        told += f', places in {"bytes" if document.places is None else "characters"}'
     key = ''.join(f'<b style="background:var(--rm{k % len(_LIGHT)})"></b>{escape(name)}' for k, name in enumerate(names))
     return f'<p class="rm-key">{told}{key}</p>\n{"".join(view.body(context))}'
 

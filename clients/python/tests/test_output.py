@@ -37,7 +37,9 @@ class Files(Folder):
     def test_what_is_read_beside_documents_is_no_output(self):
         document, listed = self.file('d', b'aa\n'), self.file('l', os.path.join(self.folder, 'd').encode() + b'\n')
         words, state = self.file('w', b'aa\n'), self.file('s', b'{}')
-        for asked_for, out in ((('csv', '--words', words, '-o', words, document), words), (('csv', *QUERY, '--files-from', listed, '-o', listed), listed),
+        query = self.file('q', b'/!x{%{w.txt}}/')
+        named = self.file('w.txt', b'aa\n')
+        for asked_for, out in ((('csv', '--words', words, '-o', words, document), words), (('csv', '-q', query, '-o', named, document), named), (('csv', *QUERY, '--files-from', listed, '-o', listed), listed),
                                (('csv', *QUERY, '--state', state, '-o', state, document), state)):
             before = self.read(out)
             status, _, told = asked(*asked_for)

@@ -4,6 +4,7 @@ import os
 import random
 import subprocess
 import sys
+import tracemalloc
 import unittest
 from concurrent.futures import ThreadPoolExecutor
 from unittest import mock
@@ -79,6 +80,17 @@ class Cuts(Folder):
         whole = list(query.rows(data))
         for places in ([0, 1, 4, 5, 20, len(data)], [0, len(data)], [0, 13, 14, len(data)]):
             self.assertEqual([row for cut in zip(places, places[1:]) for row in pieces.rows_of_piece(query, path, *cut)], whole)
+
+    def test_a_long_line_is_not_held(self):
+        """A line that is too long for one run is refused before it is read into memory."""
+        path = self.file('long', b'a\n')
+        os.truncate(path, pieces.MOST_BYTES + 1_000_000)
+        tracemalloc.start()
+        with self.assertRaises(rematch.DocumentError) as fault:
+            list(pieces.rows_in_pieces(rematch.Query('/!x{b}/'), path, 1))
+        most = tracemalloc.get_traced_memory()[1]
+        tracemalloc.stop()
+        self.assertEqual((fault.exception.status, most < 10_000_000), (6, True), most)
 
     def test_a_file_that_shrinks(self):
         path = self.file('d', b'ab\n' * 10)

@@ -194,6 +194,19 @@ class Asked(Served):
         self.assertIn('UTF-8', self.post(http, {'query': '/a/', 'first': 0, 'document': '\ud800'})[1]['fault'])
         self.assertEqual(self.post(http, {'query': '/a/', 'first': 0, 'document': 'a'})[1]['rows'], 1)
 
+    def test_advice(self):
+        """What is seldom meant is said beside the rows, and how places are counted where that makes a difference."""
+        http = self.begin('', 'a 12 c\nb 34 c\n')
+        several, apart, capture = 'it has several lines', 'of x, 2 of 2 places have rows that begin alike', 'there is no capture'
+        for query, parts in (('/a/', [capture]), ('/^!x{a}/', [several]), ('/^!x{a}/m', []), (r'/ !x{\d+}.*/', [apart]), (r'/ !x{\d+} /', []),
+                             (r'/ !x{\d+}/', [apart])):
+            told = self.post(http, {'query': query, 'first': 0})[1]['advice']
+            self.assertEqual([[part in line for line in told] for part in parts], [[True]] * len(parts), (query, told))
+            self.assertEqual(len(told), len(parts), (query, told))
+        self.assertNotIn('advice', self.post(http, {'query': '/a**/', 'first': 0})[1])
+        self.assertNotIn('places in', self.post(http, {'query': '/!x{a}/', 'first': 0})[1]['html'])
+        self.assertIn('1 row, places in characters<', self.post(http, {'query': '/!x{a}/', 'first': 0, 'document': 'éa'})[1]['html'])
+
     def test_why(self):
         """How far a query fits the document that was given last."""
         http = self.begin('', 'for ada from\nfor o.meyer from\n')

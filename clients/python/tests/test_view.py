@@ -106,6 +106,11 @@ class Fragments(unittest.TestCase):
         page = view.fragment(rematch.Document(b'c' * 5000 + b'a'), ['x'], [(5000, 5001)])
         self.assertIn('.. 4,760 bytes ..', page)
 
+    def test_how_places_are_counted(self):
+        """It is said where bytes and characters differ."""
+        for document, told in (('éa', '1 row, places in characters<'), ('éa'.encode(), '1 row, places in bytes<'), ('ea', '1 row<'), (b'ea', '1 row<')):
+            self.assertIn(told, ''.join(rematch.Query('/!x{a}/').findall(document)._repr_html_()), document)
+
     def test_no_text(self):
         self.assertEqual(shown(b'\xff\x00\ta', ['x'], [(0, 1)]).texts, ['\\xff·→a'])
         self.assertEqual(shown(b'', ['x'], [(0, 0)]).texts, [''])

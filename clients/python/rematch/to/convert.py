@@ -8,7 +8,7 @@ from importlib import import_module
 from itertools import chain, islice
 from typing import Any, Callable, Dict, Iterable, Iterator, List, Optional, TextIO, Tuple
 
-from ..advice import Advice, advise, is_of_ends, is_of_rows
+from ..advice import Advice, is_of_ends, is_of_rows
 from ..documents import Document
 from ..faults import CursorError, DocumentError, OutOfMemory, QueryError, RematchError, SizeError
 from ..match import Row
@@ -18,7 +18,7 @@ from ..reader import read
 from ..tree import captures_of
 from .command import is_watched, line_of, run_told
 from .expand import Expanded, captured, expanded
-from .doubts import doubts_of, has_anchors_alone, has_several_lines, oddity_of
+from .doubts import SEVERAL_LINES, doubts_of, has_anchors_alone, has_several_lines, oddity_of
 from .encodings import converted, in_form
 from .nucleotides import small_letter, with_iupac
 from .output import fault_of_output, output, written
@@ -201,7 +201,7 @@ class Command:
     def advice(self) -> List[Advice]:
         """What is accepted and seldom meant, at the place where it was written."""
         text, origin = self.expansion.text, self.expansion.origin
-        found = [Advice(origin(advice.offset), advice.message) for advice in advise(text)] + self.expansion.advice
+        found = self.expansion.advised()
         small = small_letter(text) if self.given.form in ('bed', 'gff', 'fasta') else None
         if small is not None:
             found.append(Advice(origin(small.offset), 'a small letter fits no record, since the letters of records are raised to capitals: '
@@ -239,8 +239,7 @@ class Command:
         """Tells once that anchors are of the document, where it has several lines."""
         if self.has_anchors and are_several:
             self.has_anchors = False
-            self.tell(f'{name}: it has several lines, and ^ and $ are the start and the end of the whole document: for lines write m after the '
-                      'closing slash')
+            self.tell(f'{name}: {SEVERAL_LINES}')
 
     def refuse_long(self) -> None:
         """Raises why a document that is too long for one run cannot be searched, before more of it is unpacked."""
@@ -496,6 +495,9 @@ def main(words: Optional[Iterable[str]] = None) -> int:
         with ExitStack() as stack:
             command = Command(given, sys.stdout, stack.enter_context(Progress()))
             stack.callback(command.close)
+            fault = None if is_folder(given.out) else fault_of_output(given.out, command.lists.paths)
+            if fault is not None:
+                refuse(fault)
             command.out = stack.enter_context(output(None if is_folder(given.out) else given.out, comes_at_once=given.form == 'follow'))
             command.run()
         for act in command.afterwards:

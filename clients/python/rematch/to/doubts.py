@@ -9,8 +9,9 @@ from ..query import Query
 from ..reader import read
 from ..tree import Atom, Concatenation, One, ones_of
 
-__all__ = ['doubts_of', 'has_anchors_alone', 'has_several_lines', 'oddity_of']
+__all__ = ['SEVERAL_LINES', 'doubts_of', 'has_anchors_alone', 'has_several_lines', 'oddity_of']
 
+SEVERAL_LINES = 'it has several lines, and ^ and $ are the start and the end of the whole document: for lines write m after the closing slash'
 _SEEN = 1 << 20  # bytes of a document that are looked at
 _SEQUENCE = re.compile(rb'>[^\n]*\n[A-Za-z*.-]{20,}\r?\n[A-Za-z*.-]+')
 _ESCAPES = re.compile(rb'\\u[0-9a-fA-F]{4}')

@@ -18,7 +18,7 @@ from bisect import bisect_right
 from itertools import product
 from typing import Dict, Iterator, List, NamedTuple, Optional, Sequence, Tuple, Union
 
-from ..advice import Advice
+from ..advice import Advice, advise
 from ..faults import QueryError
 from ..reader import LONGEST_QUERY, query_fault, read
 from ..tree import (Atom, Boundary, Capture, Choice, Concatenation, Definition, Formula, Group, Listed, One, Query, Repeat, Union_, Use, Word,
@@ -57,6 +57,10 @@ class Expanded:
     def text(self) -> bytes:
         """What the program reads."""
         return b''.join(self._pieces)
+
+    def advised(self) -> List[Advice]:
+        """Advice on the query and on its conveniences, at the places where they were written."""
+        return [Advice(self.origin(advice.offset), advice.message) for advice in advise(self.text)] + self.advice
 
     def origin(self, offset: int) -> int:
         """The place of the source that a place of the text was written at."""

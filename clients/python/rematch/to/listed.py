@@ -20,6 +20,7 @@ class Lists:
         self._folder = folder
         self._normal = normal  # the form of Unicode that the words are brought into
         self._words: Dict[bytes, List[str]] = {}
+        self.paths: List[str] = []  # of the files that were read
         self.part = slice(None)
 
     def words(self, name: bytes, source: bytes, at: int) -> List[str]:
@@ -28,6 +29,7 @@ class Lists:
             path = os.path.join(self._folder, os.fsdecode(name))
             try:
                 with open(path, 'rb') as file:
+                    self.paths.append(path)
                     self._words[name] = words_of(in_form(file.read(), self._normal), path)
             except OSError as fault:
                 raise query_fault(f'no list {path}: {fault.strerror}', source, at, 'a list of words %{FILE} is looked for in the folder of the '

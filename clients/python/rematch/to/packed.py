@@ -196,9 +196,9 @@ class Held:
         self._at += len(found)
         return found
 
-    def readline(self) -> bytes:
-        """The bytes up to the end of a line."""
-        return self.read(self.line_end(self._at + 1) - self._at)
+    def readline(self, most: int) -> bytes:
+        """The bytes up to the end of a line, or so many of them."""
+        return self.read(min(most, self.line_end(self._at + 1) - self._at))
 
     def line_end(self, place: int) -> int:
         """The end of the line that has the byte before a place; the document's end where none has it."""

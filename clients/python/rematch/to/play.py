@@ -15,6 +15,7 @@ from contextlib import contextmanager, nullcontext
 from http.server import BaseHTTPRequestHandler, ThreadingHTTPServer
 from typing import Any, Dict, Iterator, List, Optional, Tuple
 
+from ..advice import is_of_ends
 from ..documents import Document
 from ..faults import DocumentError, ProgramError, QueryError, RematchError
 from ..match import Row
@@ -22,8 +23,10 @@ from ..query import Query
 from ..session import Server, Session, SessionError
 from ..view import section
 from .command import MEGABYTE, add_memory, run_told
-from .expand import expanded
+from .doubts import SEVERAL_LINES, has_anchors_alone, has_several_lines
+from .expand import Expanded, expanded
 from .play_page import page
+from .row_doubts import MOST_SEEN, doubts_of_rows
 
 __all__ = ['Player', 'main', 'serve']
 
@@ -47,6 +50,7 @@ class Player:
         self._server = Server(memory=memory)
         self._session: Optional[Session] = None
         self._asked: Tuple[str, str] = ('', '')  # the query and the document of the session
+        self._expansion = Expanded(b'')  # of the query of the session
         self._rows: List[Row] = []
         self._turn = threading.Lock()
         self._count = threading.Lock()
@@ -137,17 +141,28 @@ class Player:
             self._rows += [match.row for match in session.next(min(1000, first + _SCREEN - len(self._rows)))]
         shown = self._rows[first:first + _SCREEN]
         has_more = session.more or first + _SCREEN < len(self._rows)
-        html = section(_document(self.document), session.variables, shown, None, 1, first, _LINES_OF_SPAN)
+        document = _document(self.document)
+        html = section(document, session.variables, shown, None, 1, first, _LINES_OF_SPAN)
         return {'html': html, 'first': first, 'rows': len(shown), 'found': len(self._rows), 'more': has_more,
-                'all': not session.more}
+                'all': not session.more, 'advice': self._advice(session, document)}
+
+    def _advice(self, session: Session, document: Document) -> List[str]:
+        """What is accepted and seldom meant in the query, and what its rows say of it."""
+        data = bytes(document.data)
+        doubts = doubts_of_rows(session.variables, self._rows[:MOST_SEEN], data)
+        are_ends_known = bool(doubts) or not session.more
+        told = [advice.message for advice in self._expansion.advised() if not (is_of_ends(advice) and are_ends_known)]
+        if has_anchors_alone(self._expansion.source) and has_several_lines(data):
+            told.append(f'the document: {SEVERAL_LINES}')
+        return told + doubts
 
     def _opened(self, query: str) -> Session:
         """A session of the query, whose conveniences are written out; a fault is at its place in the query."""
-        expansion = expanded(query.encode('utf-8', 'surrogatepass'))
+        self._expansion = expanded(query.encode('utf-8', 'surrogatepass'))
         try:
-            return self._server.open(expansion.text, self.document)
+            return self._server.open(self._expansion.text, self.document)
         except QueryError as fault:
-            raise expansion.fault(fault) from None
+            raise self._expansion.fault(fault) from None
 
 
 def _document(text: str) -> Document:

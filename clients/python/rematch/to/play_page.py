@@ -20,12 +20,13 @@ textarea{box-sizing:border-box;width:100%;height:9em;font:15px/1.4 ui-monospace,
 .pl-bar{display:flex;flex-wrap:wrap;gap:.5em;align-items:center;padding:.5em 0;font-size:14px}
 .pl-bar button,#there{font:inherit;padding:.2em .6em}
 #told{overflow-x:auto;font:14px/1.4 ui-monospace,"DejaVu Sans Mono",monospace;margin:0}
-#told:empty{display:none}
+#told:empty,#advice:empty{display:none}
+#advice{font-size:14px;margin:.2em 0;padding-left:1.4em}
 #rows[aria-busy=true]{opacity:.6}
 @media (max-width:700px){.pl-in{grid-template-columns:1fr}textarea{height:6em}}
 '''
 _SCRIPT = '''
-const $=i=>document.getElementById(i),query=$('query'),text=$('document'),fault=$('fault'),place=fault.firstChild,hint=fault.lastChild,rows=$('rows'),say=$('say'),there=$('there');
+const $=i=>document.getElementById(i),query=$('query'),text=$('document'),fault=$('fault'),place=fault.firstChild,hint=fault.lastChild,rows=$('rows'),say=$('say'),there=$('there'),advice=$('advice');
 let sent=text.defaultValue,known=0,number=0,first=0,late,reply={};
 const ask=async to=>{const mine=++number,body={query:query.value,first:to,known};const own=text.value;if(own!==sent)body.document=own;
 rows.setAttribute('aria-busy','true');let got;
@@ -34,7 +35,8 @@ got=r.ok?await r.json():{fault:await r.text()};if(got.again){sent=null;if(mine==
 else if(got.known!=null){sent=own;known=got.known}}catch(e){got={fault:'rematch-play has ended: begin it anew'}}
 if(mine!==number||got.old)return;rows.setAttribute('aria-busy','false');reply=got;
 const told=query.value&&got.fault||'',k=told.indexOf('\\nhint: ');place.textContent=k<0?told:told.slice(0,k);
-hint.textContent=k<0?'':told.slice(k+1);there.hidden=!told||got.at==null;if(got.fault){say.textContent=told&&(rows.firstChild?'fault; the rows are those of the query before':'fault');return}
+hint.textContent=k<0?'':told.slice(k+1);there.hidden=!told||got.at==null;
+advice.replaceChildren(...(got.advice||[]).map(x=>Object.assign(document.createElement('li'),{textContent:x})));if(got.fault){say.textContent=told&&(rows.firstChild?'fault; the rows are those of the query before':'fault');return}
 first=got.first;rows.innerHTML=got.html;
 say.textContent=got.rows?'rows '+(first+1)+' to '+(first+got.rows)+(got.all?' of '+got.found:', and more'):'no rows';
 $('back').disabled=!first;$('begin').disabled=!first;$('on').disabled=!got.more};
@@ -78,6 +80,7 @@ def page(query: str, document: str, name: str, nonce: str) -> str:
 <div class="pl-bar"><button id="begin" disabled>First</button><button id="back" disabled>Previous</button><button id="on" disabled>Next</button>
 <button id="why">How far it fits</button>
 <output id="say" aria-live="polite"></output></div>
+<ul id="advice" aria-label="advice" aria-live="polite"></ul>
 <pre id="told" aria-live="polite"></pre>
 <div id="rows" class="rm" role="region" aria-label="rows over their document"></div>
 </main><script nonce="{nonce}">{ROWS_SCRIPT}{_SCRIPT}</script></body></html>
