@@ -1,12 +1,15 @@
 -- Rows that are being given.
-use Rattle.std.proofs.Common.{◌≡◌, ℕ, ◌+◌, ◌*◌, ◌<◌, ◌≤◌, List, [], ◌∷◌, ◌++◌, length, take, drop, refl, sym, ap, ◌∙◌, subst, arith, length-append, length-take}
+use Rattle.std.proofs.Common.{◌≡◌, ℕ, ◌+◌, ◌-◌, ◌*◌, ◌<◌, ◌≤◌, eqb, Bool, true, false, List, [], ◌∷◌, ◌++◌, length, take, drop, refl, sym, ap, ◌∙◌, subst, arith, length-append, length-take}
+use Rattle.std.proofs.Math.Nat.{add-mul}
+use Rattle.std.proofs.lemmas.Bool.{eq-eqb, ne_eqb}
 use Rattle.std.proofs.lemmas.List.{drop_all, take_all}
 use Rattle.spanner_model.specs.Captures.{VarName}
 use Rattle.spanner_model.specs.Answers.{SpanRow}
 use Rattle.spanner_model.specs.declared.tested.Tested.{Tested}
 use Rattle.spanner_engine.specs.Fitting.{FitsRow}
 use Rattle.spanner_model.specs.Passing.{Check, passing}
-use Rattle.spanner_engine.specs.Trying.{IsNextPassing}
+use Rattle.spanner_engine.specs.Left.{EndsIn}
+use Rattle.spanner_engine.specs.Trying.{IsNextPassing, trying_steps}
 use Rattle.spanner_engine.proofs.PassingLaws.{next_passes}
 use Rattle.spanner_library.specs.Cells.{row_cells, rows_cells}
 use Rattle.spanner_library.specs.Library.{Given, PreparedQuery}
@@ -81,6 +84,40 @@ module _ (checks : List Check) (names : List VarName) (d : List ℕ) (old : List
           behind = f.behind;
           left = still ∙ sym (drop_all most (passing checks names d old) (omega (arith, all, f.within)));
         }
+
+-- ---- the steps of trying answers
+
+-- answers are tried one after another
+tried_on : (v tests old now new : ℕ) (found : Bool) → now ≤ old → new ≤ now →
+    trying_steps v tests (old - now) true + trying_steps v tests (now - new) found ≡ trying_steps v tests (old - new) found
+tried_on v tests old now new found before after =
+    let parts : (old - now) + (now - new) ≡ old - new = omega (arith, before, after) in
+    let spread = add-mul (old - now) (now - new) (2 * v + tests) in
+    let whole : ((old - now) + (now - new)) * (2 * v + tests) ≡ (old - new) * (2 * v + tests) = ap (λ (k : ℕ). k * (2 * v + tests)) parts in
+    omega (arith, spread, whole)
+
+-- further answers are tried
+pub steps_on : (v tests at_v at_tests start here last : ℕ) (old now new : List SpanRow) (found : Bool) → at_v ≡ v → at_tests ≡ tests → length now ≤ length old → EndsIn now new →
+    here ≤ start + trying_steps v tests (length old - length now) true → last ≤ here + trying_steps at_v at_tests (length now - length new) found →
+    last ≤ start + trying_steps v tests (length old - length new) found
+steps_on v tests at_v at_tests start here last old now new found same_v same_tests before (front, joined) so_far more =
+    let after : length new ≤ length now = omega (arith, ap (λ (rows : List SpanRow). length rows) joined, length-append front new) in
+    let both = tried_on v tests (length old) (length now) (length new) found before after in
+    let more : last ≤ here + trying_steps v tests (length now - length new) found =
+    subst (λ (k : ℕ). last ≤ here + trying_steps k tests (length now - length new) found) same_v
+    (subst (λ (k : ℕ). last ≤ here + trying_steps at_v k (length now - length new) found) same_tests more) in
+    omega (arith, both, so_far, more)
+
+-- as many rows were found as are wanted, or fewer
+pub steps_full : (v tests tried start last count most : ℕ) → count ≤ most → most ≤ count → last ≤ start + trying_steps v tests tried true →
+    last ≤ start + trying_steps v tests tried (eqb count most)
+steps_full v tests tried start last count most within full le =
+    subst (λ (b : Bool). last ≤ start + trying_steps v tests tried b) (sym (eq-eqb count most (omega (arith, within, full)))) le
+
+pub steps_short : (v tests tried start last count most : ℕ) → count < most → last ≤ start + trying_steps v tests tried false →
+    last ≤ start + trying_steps v tests tried (eqb count most)
+steps_short v tests tried start last count most less le =
+    subst (λ (b : Bool). last ≤ start + trying_steps v tests tried b) (sym (ne_eqb count most (λ same. omega (arith, less, same)))) le
 
 -- ---- room for a row more
 

@@ -1,3 +1,4 @@
 pub mod CellLaws
 pub mod Filling
+pub mod Opening
 pub mod Refused

@@ -1,7 +1,7 @@
 -- What a prepared query is, what rows are still to come, and why a text is refused.
 use Rattle.std.specs.Prelude.{◌≡◌, ◌⊎◌, ℕ, ◌*◌, Bool, List, length, take, drop, refl}
 use Rattle.std.specs.Coded.{Coded, code_by, coded×, coded_list, coded_ℕ}
-use Rattle.marked_automaton.specs.Automaton.{Automaton}
+use Rattle.marked_automaton.specs.Automaton.{Automaton, Marked}
 use Rattle.marked_automaton.specs.Codes.{automaton_code}
 use Rattle.spanner_model.specs.contracts.tested.Tested.{the_row}
 use Rattle.spanner_model.specs.Captures.{VarName}
@@ -33,6 +33,10 @@ prepared_code =
 -- the tree of its text
 abbrev pub tree : PreparedQuery → TestedTree
 tree p = tested_of p.tested
+
+-- the automaton that documents are read by, with the names of its variables
+abbrev pub automaton_of : PreparedQuery → Marked
+automaton_of p = record { names = p.names; graph = p.graph }
 
 -- its checks, where this is what the numbers of tests mean
 abbrev pub checks_by : (ℕ → List ℕ → Bool) → PreparedQuery → List Check

@@ -1,7 +1,8 @@
 //! Queries that own what they were compiled to.
-ghost use Rattle.std.specs.Prelude.{◌≡◌, ℕ, ◌+◌, ◌^◌, ◌≤◌, Bool, length, IfErr, IfOk, IsErrOf, OnOk};
+ghost use Rattle.std.specs.Prelude.{◌≡◌, ℕ, ◌+◌, ◌^◌, ◌≤◌, ◌⊎◌, Bool, length, IfErr, IfOk, IsErrOf, OnOk};
 ghost use Rattle.std.specs.Option.{IfSome, option_copied};
 ghost use Rattle.spanner_model.specs.Answers.{AreResultNames};
+ghost use Rattle.query_automaton.specs.CompiledQuery.{IsCompiled};
 ghost use Rattle.query_automaton.specs.Parts.{AtomsAreSmall};
 ghost use Rattle.spanner_engine.specs.Begun.{AreRead, IsBeginFault, IsPast, IsReadWithin, KeepsOther, begin_steps, counted, row_kept};
 ghost use Rattle.spanner_engine.specs.Caching.{IsCacheOf, rebuild};
@@ -11,7 +12,7 @@ ghost use Rattle.spanner_engine.specs.Left.{AreLeft};
 ghost use Rattle.spanner_engine.specs.declared.beginning.BeginFault.TheVariants.{CursorOther, CursorPlace};
 ghost use Rattle.spanner_model.specs.Passing.{AreKnown, known};
 ghost use Rattle.query_parser.specs.Binding.{IsOnlyTested};
-ghost use Rattle.spanner_library.specs.Library.{IsRefused, tree};
+ghost use Rattle.spanner_library.specs.Library.{IsRefused, automaton_of, tree};
 
 use crate::Rows;
 use marked_automaton::{Automaton, SizeFault};
@@ -93,6 +94,7 @@ impl<J: Judge> Prepared<J> {
     pub fn vars(&self) -> &VarSet
         ensures value { result.now ≡ self.now.names }
         ensures names { AreResultNames (tree self.now).query self.now.names }
+        ensures compiled { IsCompiled (tree self.now).query (automaton_of self.now) }
         ensures tests_known { AreKnown (known self.now.tests J.judges) (tree self.now).asked }
     {
         self.automaton.vars()
@@ -132,6 +134,7 @@ impl<J: Judge> Prepared<J> {
         ensures other { (kept : ℕ) → KeepsOther (length document.now) (option_copied after.entry) kept →
             IsErrOf result (CursorOther kept (length document.now)) }
         ensures place { IsPast (length document.now) (option_copied after.entry) → IsErrOf result CursorPlace }
+        ensures still { (kept found : ℕ) → IsErrOf result CursorPlace ⊎ IsErrOf result (CursorOther kept found) → steps.new ≡ steps.old }
         ensures fault { IfErr result (IsBeginFault (tree self.now).query document.now options.filter
             (option_copied after.entry) options.limit) }
         ensures weighs { OnOk result (IsReadWithin self.now.graph (tree self.now).query document.now options.filter options.limit) }
@@ -178,6 +181,7 @@ impl<J: Judge> Prepared<J> {
         ensures other { (kept : ℕ) → KeepsOther (length document.now) (option_copied after.entry) kept →
             IsErrOf result (CursorOther kept (length document.now)) }
         ensures place { IsPast (length document.now) (option_copied after.entry) → IsErrOf result CursorPlace }
+        ensures still { (kept found : ℕ) → IsErrOf result CursorPlace ⊎ IsErrOf result (CursorOther kept found) → steps.new ≡ steps.old }
         ensures fault { IfErr result (IsBeginFault (tree self.now).query document.now options.filter
             (option_copied after.entry) options.limit) }
         ensures weighs { OnOk result (IsReadWithin self.now.graph (tree self.now).query document.now options.filter options.limit) }

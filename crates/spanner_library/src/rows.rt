@@ -1,6 +1,7 @@
 //! Rows that are still to come.
-ghost use Rattle.std.specs.Prelude.{◌≡◌, ◌+◌, ◌*◌, ◌^◌, ◌≤◌, length};
+ghost use Rattle.std.specs.Prelude.{◌≡◌, ◌+◌, ◌*◌, ◌-◌, ◌^◌, ◌≤◌, ◌==◌, length};
 ghost use Rattle.spanner_engine.specs.Fitting.{AreLast};
+ghost use Rattle.spanner_engine.specs.Trying.{trying_steps};
 ghost use Rattle.spanner_library.specs.Library.{Given, checks_by, tree};
 
 use crate::Prepared;
@@ -43,6 +44,9 @@ impl Rows {
     /// and where it ends, or twice `ABSENT`. What is left of `out` stays as it was. The number of the rows is told; it is less than `most`
     /// only where no row remains. It takes no memory.
     ///
+    /// For each answer that it tries it takes at most two steps for each variable and one for each test, whatever the length of the
+    /// document; and two for each variable once more where fewer rows remain than `most`.
+    ///
     /// The rows are those of this query on this document.
     pub fn fill<J: Judge, L: Ledger>(
         &mut self,
@@ -61,6 +65,8 @@ impl Rows {
         ensures variables { self.new.variables ≡ self.old.variables }
         ensures fewer { length self.new.rest + result ≤ length self.old.rest }
         ensures len { length out.new ≡ length out.old }
+        ensures steps { steps.new ≤ steps.old + trying_steps self.old.variables (length (tree query.now).asked)
+            (length self.old.rest - length self.new.rest) (result == most) }
     {
         fill_from(&mut self.answers, query, document, out, most, steps)
     }
@@ -84,6 +90,8 @@ fn fill_from<J: Judge, L: Ledger>(
     ensures variables { answers.new.variables ≡ answers.old.variables }
     ensures fewer { length answers.new.rest + result ≤ length answers.old.rest }
     ensures len { length out.new ≡ length out.old }
+    ensures steps { steps.new ≤ steps.old + trying_steps answers.old.variables (length (tree query.now).asked)
+        (length answers.old.rest - length answers.new.rest) (result == most) }
 {
     let tested = query.tested();
     let vars = query.vars();

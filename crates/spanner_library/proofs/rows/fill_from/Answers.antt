@@ -1,4 +1,4 @@
-use Rattle.std.proofs.Common.{◌∙◌, ◌*◌, ℕ, List, length, true, ap}
+use Rattle.std.proofs.Common.{◌∙◌, ◌-◌, ◌*◌, ℕ, List, length, true, false, ap, arith}
 use Rattle.spanner_model.specs.Captures.{VarName}
 use Rattle.spanner_model.specs.Answers.{SpanRow}
 use Rattle.spanner_model.specs.Passing.{checks_of, known}
@@ -6,7 +6,7 @@ use Rattle.spanner_model.specs.declared.tested.Tested.{Tested}
 use Rattle.spanner_engine.specs.Trying.{IsNextPassing}
 use Rattle.spanner_engine.proofs.PassingLaws.{all_fit, goes_within, last_rest}
 use Rattle.spanner_library.specs.Library.{checks_by, tree}
-use Rattle.spanner_library.proofs.Filling.{further, of_query, room_here}
+use Rattle.spanner_library.proofs.Filling.{further, of_query, room_here, steps_full, steps_on, steps_short}
 use Rattle.spanner_library.proofs.rows.fill_from.Goals as goal
 
 pub advance_tested-requires-clause-ascending : goal.advance_tested-requires-clause-ascending
@@ -57,6 +57,9 @@ loop-count-preserved g c =
           (ap (λ (k : ℕ). c.loop-count.count * (2 * k)) width) c.put_row.ensures.put c.put_row.ensures.behind c.put_row.ensures.len;
       last = last_rest (tree q).query d q.names left.0 new old left.1 c.loop-count.invariant.last;
       variables = c.advance_tested.ensures.variables ∙ c.loop-count.invariant.variables;
+      steps = steps_on c.args.answers.now.variables (length (tree q).asked) c.loop-count.answers.variables (length c.tested-tested.result.now.asked) c.args.steps.now c.loop-count.steps
+          c.advance_tested.new.steps c.args.answers.now.rest old new true c.loop-count.invariant.variables (ap (λ (t : Tested). length t.asked) c.tested-tested.ensures)
+          (omega (arith, c.loop-count.invariant.filling.fewer)) left c.loop-count.invariant.steps c.if-not-advance_tested.ensures.steps;
     }
 
 pub returns-then-not-advance_tested-clause-last : goal.returns-then-not-advance_tested-clause-last
@@ -64,3 +67,21 @@ returns-then-not-advance_tested-clause-last g c =
     let q = c.args.query.now in
     let left = c.advance_tested.ensures.left in
     last_rest (tree q).query c.args.document.now q.names left.0 c.advance_tested.new.answers.rest c.loop-count.answers.rest left.1 c.loop-count.invariant.last
+
+pub returns-then-not-advance_tested-clause-steps : goal.returns-then-not-advance_tested-clause-steps
+returns-then-not-advance_tested-clause-steps g c =
+    let q = c.args.query.now in
+    let v = c.args.answers.now.variables in
+    let old = c.args.answers.now.rest in
+    let now = c.loop-count.answers.rest in
+    let new = c.advance_tested.new.answers.rest in
+    steps_short v (length (tree q).asked) (length old - length new) c.args.steps.now c.advance_tested.new.steps c.loop-count.count c.args.most c.loop-count-test.true
+    (steps_on v (length (tree q).asked) c.loop-count.answers.variables (length c.tested-tested.result.now.asked) c.args.steps.now c.loop-count.steps c.advance_tested.new.steps old now new false
+    c.loop-count.invariant.variables (ap (λ (t : Tested). length t.asked) c.tested-tested.ensures) (omega (arith, c.loop-count.invariant.filling.fewer)) c.advance_tested.ensures.left
+    c.loop-count.invariant.steps c.if-not-advance_tested.ensures.steps)
+
+pub returns-clause-steps : goal.returns-clause-steps
+returns-clause-steps g c =
+    let filling = c.loop-count.invariant.filling in
+    steps_full c.args.answers.now.variables (length (tree c.args.query.now).asked) (length c.args.answers.now.rest - length c.loop-count.answers.rest) c.args.steps.now c.loop-count.steps
+    c.loop-count.count c.args.most filling.within (omega (arith, c.loop-count-test.false)) c.loop-count.invariant.steps

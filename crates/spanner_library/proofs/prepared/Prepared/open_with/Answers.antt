@@ -6,8 +6,10 @@ use Rattle.spanner_model.specs.Answers.{SpanRow}
 use Rattle.spanner_model.specs.ExprView.{query_of}
 use Rattle.spanner_engine.specs.Filtering.{AreAtomsWithin}
 use Rattle.spanner_engine.specs.Fitting.{AreLast}
+use Rattle.spanner_engine.specs.declared.beginning.BeginFault.TheVariants.{CursorOther, CursorPlace}
 use Rattle.spanner_engine.proofs.PassingLaws.{left_last}
 use Rattle.spanner_library.specs.Library.{PreparedQuery, tree}
+use Rattle.spanner_library.proofs.Opening.{same_fault}
 use Rattle.spanner_library.proofs.prepared.Prepared.open_with.Goals as goal
 
 pub returns-in-Ok-clause-steps : goal.returns-in-Ok-clause-steps
@@ -42,3 +44,6 @@ returns-in-Ok-clause-weighs g c =
 pub returns-in-Ok-clause-atoms : goal.returns-in-Ok-clause-atoms
 returns-in-Ok-clause-atoms g c =
     subst (λ (p : PreparedQuery). AreAtomsWithin (tree p).query c.args.document.now c.args.options.filter c.args.options.limit) c.self.view_is c.in-Ok.ensures.atoms
+
+pub returns-in-Err-clause-still : goal.returns-in-Err-clause-still
+returns-in-Err-clause-still g c kept found = same_fault c.in-Err.fault CursorPlace (CursorOther kept found) (c.in-Err.ensures.still kept found)
