@@ -236,7 +236,7 @@ class Large(unittest.TestCase):
         document = rematch.Document('é' * 3000)
         first = document.places
         for at in range(0, 3000, 2):
-            self.assertEqual((document.places[at], document._places[at + 1]), (at // 2, at // 2 + 1))
+            self.assertEqual((document.places[at], document.places[at + 1]), (at // 2, at // 2 + 1))
         self.assertIsNot(document.places, first)
         self.assertEqual(first[5999], document.places[5999])
 
