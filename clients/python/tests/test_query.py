@@ -186,7 +186,7 @@ class Documents(Folder):
             self.assertEqual(query.count(Path(path)), 0)
         self.assertEqual(os.path.basename(caught.filename), 'test_query.py')
         with self.assertWarnsRegex(UserWarning, 'pathlib.Path') as caught:
-            self.assertEqual(query.count(path), 0)
+            self.assertEqual(query.count(path), query.count(path.encode()))  # of which the name of the folder may have rows
         self.assertEqual(os.path.basename(caught.filename), 'test_query.py')
         with gzip.open(path) as file:
             self.assertEqual((query.count(file), query.count(file)), (1, 1))
