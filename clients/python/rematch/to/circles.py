@@ -1,7 +1,7 @@
 """Records that are circles, as plasmids are: a site may go over the end of its record, on to the beginning."""
 from __future__ import annotations
 
-from typing import Any, Callable, Dict, Iterable, Iterator, List, Optional, Tuple
+from typing import Any, Dict, Iterable, Iterator, List, Optional, Tuple
 
 from ..bounds import NoReach, length_of_printed
 from ..faults import QueryError

@@ -10,7 +10,6 @@ from typing import Any, Dict, Iterator, List, Optional, Sequence
 from ..documents import Source, open_document
 from ..faults import QueryError
 from ..match import Row
-from ..query import Query
 from .merged import SplitQuery
 
 __all__ = ['ListQuery', 'formula_in_bytes', 'formula_of', 'queries_of', 'weight_of', 'words_of']
