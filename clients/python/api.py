@@ -62,11 +62,15 @@ def signature(call):
 
 
 def members(kind):
-    """The public calls and properties of a class, in the order in which they stand."""
+    """The public calls, properties and described slots of a class, in the order in which they stand."""
     for name, value in vars(kind).items():
         if isinstance(value, (classmethod, staticmethod)):
             value = value.__func__
-        if not name.startswith('_') and (inspect.isfunction(value) or isinstance(value, property)) and value.__doc__:
+        if name.startswith('_'):
+            continue
+        if inspect.ismemberdescriptor(value) and inspect.getdoc(value):
+            yield name, value
+        elif (inspect.isfunction(value) or isinstance(value, property)) and value.__doc__:
             yield name, value
 
 
@@ -74,8 +78,8 @@ def of_class(name, kind):
     own = kind.__init__ if '__init__' in vars(kind) and not issubclass(kind, (BaseException, tuple)) else None
     yield f'### {name}{signature(own) if own else ""}\n\n{told(kind.__doc__)}'
     for member, value in members(kind):
-        words = '' if isinstance(value, property) else signature(value)
-        yield f'#### {name}.{member}{words}\n\n{told(value.__doc__)}'
+        words = signature(value) if inspect.isfunction(value) else ''
+        yield f'#### {name}.{member}{words}\n\n{told(inspect.getdoc(value))}'
 
 
 def anchor(title):

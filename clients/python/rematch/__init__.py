@@ -25,7 +25,7 @@ from .query import Query
 from .version import VERSION
 
 if TYPE_CHECKING:
-    from ._dask import on_dask
+    from .dask import on_dask
     from .advice import Advice, advise
     from .calls import expand, findall, finditer, fullmatch, search, split, sub
     from .pieces import NoReach, reach
@@ -38,7 +38,7 @@ __version__ = VERSION
 
 _ELSEWHERE = {**dict.fromkeys(('expand', 'findall', 'finditer', 'fullmatch', 'search', 'split', 'sub'), 'calls'),
               'advise': 'advice', 'Advice': 'advice', 'Server': 'session', 'Session': 'session', 'SessionError': 'session',
-              'reach': 'pieces', 'NoReach': 'pieces', 'on_dask': '_dask'}
+              'reach': 'pieces', 'NoReach': 'pieces', 'on_dask': 'dask'}
 
 
 def compile(text: Union[str, bytes], **words: Any) -> Query:

@@ -5,12 +5,10 @@ import os
 from array import array
 from collections.abc import Mapping
 from itertools import repeat
-from typing import TYPE_CHECKING, Any, Callable, Dict, Iterable, Iterator, List, Optional, Sequence, Tuple, Union
+from typing import Any, Callable, Dict, Iterable, Iterator, List, Optional, Sequence, Tuple, Union
 
 from .documents import Document, Source, open_document
-
-if TYPE_CHECKING:
-    from .query import Query
+from .query import Query, flat_places
 
 __all__ = ['Coded', 'Columns', 'parquet_of', 'table_of', 'table_of_documents']
 
@@ -149,7 +147,7 @@ def _named(documents: Any) -> Iterator[Tuple[Optional[str], Source]]:
         yield from ((None, document) for document in documents)
 
 
-def columns_of_documents(query: 'Query', documents: Any, encoding: Optional[str]) -> Tuple[Columns, bool]:
+def columns_of_documents(query: Query, documents: Any, encoding: Optional[str]) -> Tuple[Columns, bool]:
     """The columns of `Query.arrow`, and whether their texts are ``str``."""
     columns = Columns(query.variables)
     kinds = set()
@@ -159,12 +157,12 @@ def columns_of_documents(query: 'Query', documents: Any, encoding: Optional[str]
         kinds.add(isinstance(opened.text(0, 0), str))
         if len(kinds) > 1:
             raise TypeError('some documents are texts and others are bytes: encoding has all of them read as texts')
-        places, rows = query._flat_places(opened)
+        places, rows = flat_places(query, opened)
         columns.add(name or opened.name or str(number), places, rows, opened.text)
     return columns, kinds != {False}
 
 
-def table_of_documents(query: 'Query', documents: Any, encoding: Optional[str] = None) -> Any:
+def table_of_documents(query: Query, documents: Any, encoding: Optional[str] = None) -> Any:
     """The table of `Query.arrow`."""
     _pyarrow()  # before anything is searched
     columns, is_text = columns_of_documents(query, documents, encoding)

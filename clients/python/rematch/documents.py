@@ -11,7 +11,7 @@ from weakref import ref
 from .faults import DocumentError
 from .program import held_file
 
-__all__ = ['Document', 'Source', 'MOST_BYTES']
+__all__ = ['Document', 'Source', 'Window', 'MOST_BYTES', 'document_of_text']
 
 MOST_BYTES = 268_435_456
 """The most bytes of a document that the program takes."""
@@ -55,19 +55,19 @@ class Document:
     (b'n\xc3\xa9', 2, 3, 2)
     """
 
-    __slots__ = ('name', '_data', '_text', '_places', '_held', '_path', '_watched', '__weakref__')
-    _begins = 0  # where the data begins, of a part of what is followed
+    __slots__ = {'places': 'What has at each place in bytes the place that is told, and -1 at -1; None where both are the same.',
+                 **dict.fromkeys(('name', '_data', '_text', '_held', '_path', '_watched', '__weakref__'))}
 
     def __init__(self, source: Source, encoding: Optional[str] = None) -> None:
         self.name: Optional[str] = None
         self._data: Union[None, bytes, mmap.mmap] = None
         self._text: Optional[str] = None
-        self._places: Optional[_Places] = None
+        self.places: Optional[_Places] = None
         self._held: Optional[int] = None  # a file of the bytes that no one else can change
         self._path: Union[None, str, bytes] = None
         self._watched: Optional[int] = None  # shares its position with the file that the program reads
         if isinstance(source, Document):
-            for part in ('name', '_data', '_text', '_places', '_path'):
+            for part in ('name', '_data', '_text', 'places', '_path'):
                 setattr(self, part, getattr(source, part))
             self._held = None if source._held is None else os.dup(source._held)
         elif isinstance(source, str):
@@ -109,7 +109,7 @@ class Document:
         self._text = text
         self._data = text.encode('utf-8', 'surrogatepass')
         if len(self._data) != len(text):
-            self._places = _all_places(self._data) if len(self._data) <= _SMALL else _Counted(self, self._data)
+            self.places = _all_places(self._data) if len(self._data) <= _SMALL else _Counted(self, self._data)
 
     def _take_buffer(self, source: Any) -> None:
         """Takes the bytes of what has a buffer, as a map of a file, which can be read as a file too."""
@@ -223,11 +223,6 @@ class Document:
 
     # -- How places are counted
 
-    @property
-    def places(self) -> Optional[_Places]:
-        """What has at each place in bytes the place that is told, and -1 at -1; None where both are the same."""
-        return self._places
-
     def text(self, start: int, end: int) -> Union[bytes, str]:
         """What stands from one place to another, both as they are told: bytes, of a ``str`` a ``str``."""
         held = self._text if self._text is not None else self._data
@@ -235,8 +230,36 @@ class Document:
 
     def told(self, places: List[int]) -> List[int]:
         """Places in bytes as they are told; -1 stays -1."""
-        known = self._places
+        known = self.places
         return places if known is None else [known[place] for place in places]
+
+
+class Window(Document):
+    """A part of a text that grows; its places are those of the text."""
+
+    __slots__ = ('_begins', 'line')
+
+    def __init__(self, data: bytes, begins: int, line: int) -> None:
+        super().__init__(data)
+        self._begins = begins
+        self.line = line  # the number of its first line, from 1 on
+
+    @property
+    def begins(self) -> int:
+        """Where it begins in the text."""
+        return self._begins
+
+    @property
+    def length(self) -> int:
+        """The bytes of the text up to the part's end."""
+        return self._begins + len(self.data)
+
+    def __len__(self) -> int:
+        return self.length
+
+    def text(self, start: int, end: int) -> bytes:
+        """The bytes from one place of the text to another."""
+        return self.data[start - self._begins:end - self._begins]  # type: ignore[return-value]
 
 
 def _all_places(data: bytes) -> 'array[int]':
@@ -267,8 +290,8 @@ class _Counted:
             before = self._before = array('i', accumulate(sizes, initial=0))
         self._left -= 1
         document = self._document()
-        if self._left < 0 and document is not None and document._places is self:
-            document._places = _all_places(self._data)
+        if self._left < 0 and document is not None and document.places is self:
+            document.places = _all_places(self._data)
         block = at // _BLOCK
         return before[block] + len(self._data[block * _BLOCK:at].translate(None, REST))
 
@@ -323,3 +346,16 @@ def unreadable(name: Optional[str], fault: Exception) -> DocumentError:
 def open_document(source: Source) -> Document:
     """The document of a source; a `Document` is itself."""
     return source if isinstance(source, Document) else Document(source)
+
+
+def document_of_text(text: Union[str, bytes]) -> Document:
+    """The document of a text, which is never taken for the name of a file.
+
+    >>> document_of_text('rows.txt').data
+    b'rows.txt'
+    """
+    if isinstance(text, bytes):
+        return Document(text)
+    document = Document(b'')
+    document._take_text(text)
+    return document

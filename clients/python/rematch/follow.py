@@ -10,7 +10,7 @@ import os
 import time
 from typing import IO, TYPE_CHECKING, Any, Callable, Iterator, NamedTuple, Optional, Set, Union
 
-from .documents import MOST_BYTES, Document, unreadable
+from .documents import MOST_BYTES, Window, unreadable
 from .faults import DocumentError
 from .match import Match, Row
 from .pieces import NoReach, lines_back, ties
@@ -22,34 +22,6 @@ __all__ = ['File', 'Followed', 'Step', 'Window', 'first_place', 'followed', 'lin
 
 _READ = 1 << 20  # bytes that are asked for at once
 _TAIL = 64  # bytes before the place, by which a file that was cut and filled again is known
-
-
-class Window(Document):
-    """A part of a text that grows; its places are those of the text."""
-
-    __slots__ = ('_begins', 'line')
-
-    def __init__(self, data: bytes, begins: int, line: int) -> None:
-        super().__init__(data)
-        self._begins = begins
-        self.line = line  # the number of its first line, from 1 on
-
-    @property
-    def begins(self) -> int:
-        """Where it begins in the text."""
-        return self._begins
-
-    @property
-    def length(self) -> int:
-        """The bytes of the text up to the part's end."""
-        return self._begins + len(self.data)
-
-    def __len__(self) -> int:
-        return self.length
-
-    def text(self, start: int, end: int) -> bytes:
-        """The bytes from one place of the text to another."""
-        return self.data[start - self._begins:end - self._begins]  # type: ignore[return-value]
 
 
 class Step(NamedTuple):

@@ -11,15 +11,15 @@ from itertools import chain, islice, repeat
 from typing import TYPE_CHECKING, Any, FrozenSet, Iterable, Iterator, List, Optional, Tuple, Union
 
 from . import sets, tree, variables
-from ._reach import do_fits_touch
-from .documents import Document
+from .bounds import do_fits_touch
+from .documents import Document, document_of_text
 from .faults import DocumentError, OutOfMemory, ProgramNotFound, QueryError, RematchError, SizeError
-from .match import Match, Matches
+from .match import Match, Matches, row_of
+from .query import Query, asked_alike, may_be_served
 from .reader import read
 
 if TYPE_CHECKING:
     from .library import Compiled
-    from .query import Query
     from .session import Served, Server
 
 __all__ = ['Mapped', 'bytes_read', 'mapped']
@@ -85,7 +85,7 @@ class _NoSpans(Exception):
 class Mapped:
     """How a query is asked of many texts."""
 
-    def __init__(self, query: 'Query') -> None:
+    def __init__(self, query: Query) -> None:
         self.query = query
         self.tree = read(query.printed.encode('utf-8', 'surrogateescape'), is_limited=False)
         taken = bytes_read(self.tree)
@@ -95,7 +95,7 @@ class Mapped:
         # Whether each row has spans, so that the rows of a text need not wait for those of the others.
         self.is_sure = _are_sure(self.tree)
         self.has_ends = any(atom.is_first or atom.is_last for atom in self.tree.atoms)
-        self._known: Tuple[int, Optional['Query']] = (-1, None)  # the separator of the newest batch, and its query
+        self._known: Tuple[int, Optional[Query]] = (-1, None)  # the separator of the newest batch, and its query
         self._server: Optional['Server'] = None
         self._served: Optional['Served'] = None
 
@@ -146,27 +146,24 @@ class Mapped:
                 raise
             yield one
 
-    def _joining(self, batch: List[Tuple[Text, bytes]]) -> Tuple[Optional['Query'], bytes]:
+    def _joining(self, batch: List[Tuple[Text, bytes]]) -> Tuple[Optional[Query], bytes]:
         """The query of a joined document and its separator; None where there is none."""
         for byte in self.separators:
             separator = bytes((byte,))
             if self.has_ends and any(separator in data for _, data in batch):
                 continue
             if self._known[0] != byte:
-                from .query import Query
                 if not self.has_ends:
                     self._known = byte, self.query
                 else:
                     try:
-                        _, filter, max_table, program = self.query._given
-                        ended = _with_ends(self.tree, byte)
-                        self._known = byte, Query(ended, filter=filter, max_table=max_table, program=program)
+                        self._known = byte, asked_alike(self.query, _with_ends(self.tree, byte))
                     except (QueryError, SizeError):  # groups or states more than a query has
                         self._known = byte, None
             return self._known[1], separator
         return None, b''
 
-    def _in_one(self, query: 'Query', separator: bytes, batch: List[Tuple[Text, bytes]]) -> Iterator[Matches[Any]]:
+    def _in_one(self, query: Query, separator: bytes, batch: List[Tuple[Text, bytes]]) -> Iterator[Matches[Any]]:
         """The rows of each text by one run, a text as soon as its rows are there.
 
         Where a row may have no spans, of which nobody knows the text, all are waited for, and `_NoSpans` is raised at such a row.
@@ -183,7 +180,7 @@ class Mapped:
                 raise SizeError(f'size: more than {_MOST_WAITING} rows that wait', 4, self.query.text)
         yield from waiting
 
-    def _by_text(self, query: 'Query', separator: bytes, batch: List[Tuple[Text, bytes]]) -> Iterator[Matches[Any]]:
+    def _by_text(self, query: Query, separator: bytes, batch: List[Tuple[Text, bytes]]) -> Iterator[Matches[Any]]:
         joined = separator + separator.join(data for _, data in batch) + separator
         at, start, end = 0, 1, 1 + len(batch[0][1])  # the text that is looked at, and its place in the joined document
         document: Optional[Document] = None
@@ -199,7 +196,7 @@ class Mapped:
                 at, start, document, found = at + 1, end + 1, None, Matches()
                 end = start + len(batch[at][1])
             if document is None:
-                document = _document(*batch[at])
+                document = document_of_text(batch[at][0])
             found.append(Match(self.query, document, tuple([place - start if place >= 0 else place for place in row])))
         yield found
         for _ in batch[at + 1:]:
@@ -210,25 +207,24 @@ class Mapped:
     def _apart(self, text: Text, is_only: bool = False) -> Matches[Any]:
         from .session import Server
         try:
-            # a session takes no such words, and is for short texts
-            if is_only or self.query._words or len(text) > _LONG or self.query._inside is not None:
-                return self.query.findall(_document(text, _encoded(text)))
+            if is_only or len(text) > _LONG or not may_be_served(self.query):
+                return self.query.findall(document_of_text(text))
             if self._server is None:
                 self._server = Server(self.query.program)
             if self._served is None:
                 self._served = self._server.query(self.query.text)
             found = self._served.findall(text)
-            return Matches(Match(self.query, match._document, match._row) for match in found)
+            return Matches(row_of(self.query, match) for match in found)
         except (DocumentError, SizeError, OutOfMemory):  # what no session takes, a run may
-            return self.query.findall(_document(text, _encoded(text)))
+            return self.query.findall(document_of_text(text))
 
 
-def mapped(query: 'Query', inside: Optional['Compiled'], texts: Iterable[Text]) -> Iterator[Matches[Any]]:
+def mapped(query: Query, inside: Optional['Compiled'], texts: Iterable[Text]) -> Iterator[Matches[Any]]:
     """The rows of each text, in order."""
     return Mapped(query).rows(texts) if inside is None else _within(query, inside, texts)
 
 
-def _within(query: 'Query', inside: 'Compiled', texts: Iterable[Text]) -> Iterator[Matches[Any]]:
+def _within(query: Query, inside: 'Compiled', texts: Iterable[Text]) -> Iterator[Matches[Any]]:
     """The rows of each text by the library in this process: of many texts together, where the program is there to print the query."""
     given = iter(texts)
     first = list(islice(given, _LEAST))
@@ -242,7 +238,7 @@ def _within(query: 'Query', inside: 'Compiled', texts: Iterable[Text]) -> Iterat
     yield from _each_within(query, inside, given) if found is None else found.rows(given)
 
 
-def _each_within(query: 'Query', inside: 'Compiled', texts: Iterable[Text]) -> Iterator[Matches[Any]]:
+def _each_within(query: Query, inside: 'Compiled', texts: Iterable[Text]) -> Iterator[Matches[Any]]:
     rows = inside.empty()
     for number, text in enumerate(texts):
         if not isinstance(text, (str, bytes)):
@@ -256,7 +252,7 @@ def _each_within(query: 'Query', inside: 'Compiled', texts: Iterable[Text]) -> I
         found: Matches[Any] = Matches()
         document: Optional[Document] = None
         for count, numbers in rows.pages():
-            document = document or _document(text, data)
+            document = document or document_of_text(text)
             places = iter(numbers)
             given = zip(*[places] * rows.width) if rows.width else repeat((), count)
             found.extend(map(Match, repeat(query), repeat(document), given))
@@ -273,14 +269,6 @@ def _placed(number: int, hint: Optional[str]) -> str:
 
 def _encoded(text: Text) -> bytes:
     return text.encode('utf-8', 'surrogatepass') if isinstance(text, str) else text
-
-
-def _document(text: Text, data: bytes) -> Document:
-    """The document of a text, which is never taken for the name of a file."""
-    document = Document(data)
-    if isinstance(text, str):
-        document._take_text(text)
-    return document
 
 
 def _batch(given: Iterator[Text], size: int, number: int) -> Tuple[List[Tuple[Text, bytes]], Optional[TypeError], bool]:

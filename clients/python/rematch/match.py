@@ -1,12 +1,11 @@
 """A row of the answer, lists of them, and pages."""
 from __future__ import annotations
 
-from typing import TYPE_CHECKING, Any, AnyStr, Dict, Generic, Iterable, List, Optional, Tuple, overload
+from typing import Any, AnyStr, Dict, Generic, Iterable, List, Optional, Tuple, overload
 
-if TYPE_CHECKING:
-    from .documents import Document
+from .documents import Document, Window
 
-__all__ = ['Match', 'Matches', 'NoVariable', 'Page', 'Row', 'Span', 'Variables']
+__all__ = ['Match', 'Matches', 'NoVariable', 'Page', 'Row', 'Span', 'Variables', 'check_variable', 'row_of']
 
 Span = Tuple[int, int]
 """Start and end, counted from 0; the end is behind the last byte or character."""
@@ -55,6 +54,11 @@ class _Index(Dict[str, int]):
         raise NoVariable(f'there is no group {name!r}: variables have names, and no numbers; name one of {names}')
 
 
+def check_variable(query: Variables, name: str) -> None:
+    """Raises `NoVariable` where the name is no variable of the query."""
+    query._index[name]
+
+
 _NO_NAME: Any = 0  # what ``re`` takes where no name is given: its group 0
 _SHOWN = 200  # rows of a list that a notebook shows
 
@@ -76,7 +80,7 @@ class Match(Generic[AnyStr]):
 
     __slots__ = ('_query', '_document', '_row')
 
-    def __init__(self, query: Variables, document: 'Document', row: Row) -> None:
+    def __init__(self, query: Variables, document: Document, row: Row) -> None:
         self._query = query
         self._document = document
         self._row = row
@@ -112,7 +116,7 @@ class Match(Generic[AnyStr]):
         start = row[at]
         if start < 0:
             return None
-        places = self._document._places
+        places = self._document.places
         return (start, row[at + 1]) if places is None else (places[start], places[row[at + 1]])
 
     def start(self, name: str = _NO_NAME) -> Optional[int]:
@@ -230,14 +234,21 @@ class Match(Generic[AnyStr]):
         return Matches([self])._repr_html_() or ''
 
 
+def row_of(query: Variables, match: Match[AnyStr]) -> Match[AnyStr]:
+    """The same row of the same document, as one of another query, which has the same variables."""
+    return Match(query, match._document, match._row)
+
+
 class Matches(List[Match[AnyStr]]):
     """A list of rows, which a notebook shows as a view of the document."""
 
     def _repr_html_(self) -> Optional[str]:
-        if not self or not self[0]._query.variables or self[0]._document._begins:
+        if not self or not self[0]._query.variables:
+            return None
+        first = self[0]
+        if isinstance(first._document, Window) and first._document.begins:
             return None
         from .view import fragment
-        first = self[0]
         shown = [match._row for match in self[:_SHOWN] if match._document is first._document]
         return fragment(first._document, first._query.variables, shown, of=len(self))
 

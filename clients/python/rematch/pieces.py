@@ -13,11 +13,11 @@ from __future__ import annotations
 import os
 from typing import IO, Any, Dict, Iterator, List, NamedTuple, Optional, Sequence, Tuple, Union
 
+from .bounds import NoReach, Ties, reach_of_printed, ties_of_printed
 from .documents import MOST_BYTES, unreadable, packed_by
 from .faults import DocumentError
 from .match import Row
 from .query import Query
-from ._reach import NoReach, Ties, reach_of_printed, ties_of_printed
 
 __all__ = ['NoReach', 'Piece', 'cuts', 'reach', 'rows_of_piece', 'rows_in_pieces', 'table_of_piece', 'ties']
 
@@ -44,7 +44,7 @@ def reach(query: Query) -> int:
     >>> reach(Query('/!x{a}/ join /!y{b}/'))
     Traceback (most recent call last):
       ...
-    rematch._reach.NoReach: parts of a join share no variable, so they may be any number of lines apart
+    rematch.bounds.NoReach: parts of a join share no variable, so they may be any number of lines apart
     """
     return reach_of_printed(_with_places(query))
 

@@ -16,7 +16,7 @@ from .program import Run, find_program
 if TYPE_CHECKING:
     from .replace import Replacement
 
-__all__ = ['Query']
+__all__ = ['Query', 'asked_alike', 'flat_places', 'may_be_served']
 
 _COMMAS = bytes.maketrans(b'-\t\n', b',,,')
 _Bytes = Union[bytes, bytearray, memoryview, 'os.PathLike[str]', 'os.PathLike[bytes]', IO[bytes]]
@@ -422,9 +422,9 @@ class Query(Variables):
         >>> Query('/(!x{a})?!y{b}/').columns(b'ab')
         {'x': (array('q', [0, -1]), array('q', [1, -1])), 'y': (array('q', [1, 1]), array('q', [2, 2]))}
         """
-        flat, _ = self._flat_places(open_document(document), kind='q')
+        flat, _ = flat_places(self, open_document(document), kind='q')
         step = 2 * len(self.variables)
-        return {name: (flat[at::step], flat[at + 1::step]) for name, at in self._index.items()}
+        return {name: (flat[2 * k::step], flat[2 * k + 1::step]) for k, name in enumerate(self.variables)}
 
     def spans(self, document: Source, *, after: str = 'start') -> Any:
         """All rows as one array of 32-bit numbers with a line a row: start and end of each variable in turn, -1 and -1 for an
@@ -444,16 +444,8 @@ class Query(Variables):
         if self._inside is not None and self._is_within(after) and opened.places is None:
             rows, numbers = self._inside.open(opened.data, after).all()
             return numbers_view(rows, width, numbers)
-        flat, rows = self._flat_places(opened, after)
+        flat, rows = flat_places(self, opened, after)
         return numbers_view(rows, width, flat)
-
-    def _flat_places(self, document: Document, after: str = 'start', kind: str = 'i') -> 'Tuple[array[int], int]':
-        """The places of all rows, one after another, as numbers of that kind, and how many rows there are."""
-        flat, rows = array(kind), 0
-        for some, places in self._many_numbers(document, after):
-            rows += some
-            flat.extend(places)
-        return flat, rows
 
     def _many_numbers(self, document: Document, after: str) -> Iterator[Tuple[int, List[int]]]:
         """How many rows there are next, and their places, some at a time, as the document counts."""
@@ -500,6 +492,26 @@ class Query(Variables):
         """
         from .arrow import table_of_documents
         return table_of_documents(self, documents, encoding)
+
+
+def flat_places(query: Query, document: Document, after: str = 'start', kind: str = 'i') -> 'Tuple[array[int], int]':
+    """The places of all rows, one after another, as numbers of that kind, and how many rows there are."""
+    flat, rows = array(kind), 0
+    for some, places in query._many_numbers(document, after):
+        rows += some
+        flat.extend(places)
+    return flat, rows
+
+
+def asked_alike(query: Query, text: bytes) -> Query:
+    """The query of another text, with the words of this one."""
+    _, filter, max_table, program = query._given
+    return Query(text, filter=filter, max_table=max_table, program=program)
+
+
+def may_be_served(query: Query) -> bool:
+    """Whether sessions may answer the query: it has no words, which no session takes, and the library does not answer it."""
+    return not query._words and query._inside is None
 
 
 def _asked(after: str, limit: Optional[int]) -> List[str]:

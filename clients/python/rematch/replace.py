@@ -5,7 +5,7 @@ import re
 from typing import TYPE_CHECKING, Any, Callable, List, Optional, Tuple, Union
 
 from .documents import Document
-from .match import Match
+from .match import Match, check_variable
 
 if TYPE_CHECKING:
     from .query import Query
@@ -46,7 +46,7 @@ def _template(text: str, names: Tuple[str, ...]) -> Callable[[Match[Any]], Any]:
 
 def _variable(query: 'Query', name: Optional[str]) -> str:
     if name is not None:
-        query._index[name]  # raises where there is none
+        check_variable(query, name)
         return name
     if len(query.variables) != 1:
         names = ', '.join(query.variables) or 'none'

@@ -342,7 +342,7 @@ class _Grown(Document):
         super().__init__(b'')
         self._kept = kept
         self._bytes = kept.length
-        self._places = kept.places
+        self.places = kept.places
 
     @property
     def data(self) -> bytes:
@@ -356,7 +356,7 @@ class _Grown(Document):
         return self._bytes
 
     def __len__(self) -> int:
-        return self._bytes if self._places is None else self._places[self._bytes]
+        return self._bytes if self.places is None else self.places[self._bytes]
 
     def text(self, start: int, end: int) -> _Text:
         """What stands from one place to another, both as they are told."""

@@ -94,7 +94,7 @@ class Bounds(Served):
     def test_very_many_lines(self):
         """A screenful is drawn, also of spans over all lines."""
         text = '\n' * 4_000_000
-        document = play._document(text)
+        document = play.document_of_text(text)
         begun = time.monotonic()
         tracemalloc.start()
         html = play.section(document, ('x',), [(k, 4_000_000 - k) for k in range(100)], None, 1, 0, play._LINES_OF_SPAN)

@@ -5,7 +5,7 @@ from unittest import mock
 
 import rematch
 from rematch.to import sequences
-from rematch._reach import NoReach, length_of_printed
+from rematch.bounds import NoReach, length_of_printed
 from support import Folder
 from commands import asked
 

@@ -3,10 +3,10 @@ from __future__ import annotations
 
 from typing import Any, Dict, Iterable, Iterator, List, Optional, Tuple
 
+from ..bounds import NoReach, length_of_printed
 from ..faults import QueryError
 from ..match import Row
 from ..query import Query
-from .._reach import NoReach, length_of_printed
 from .merged import order_of
 
 __all__ = ['Circles', 'blocks_of', 'longest_fit']

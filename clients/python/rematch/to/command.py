@@ -6,8 +6,8 @@ import sys
 from typing import Any, Callable
 
 from .. import library
+from ..bounds import NoReach
 from ..faults import RematchError
-from .._reach import NoReach
 from .output import Screen
 
 __all__ = ['MEGABYTE', 'REFUSED', 'add_memory', 'is_watched', 'line_of', 'run_told']

@@ -334,7 +334,7 @@ class _Places(Form):
     takes_pieces = False
 
     def __init__(self, command: 'Command') -> None:
-        from .._reach import NoReach
+        from ..bounds import NoReach
         from .sequences import has_anchor
         super().__init__(command)
         if has_anchor(self.query):

@@ -10,14 +10,12 @@ from collections import deque
 from io import StringIO
 from typing import Any, Callable, Deque, Iterator, List, NamedTuple, Optional, Sequence, Tuple
 
+from ..bounds import NoReach
 from ..faults import ProgramError, RematchError
-from ..match import Row
-from ..pieces import Piece, cuts, rows_of_piece
-from ..query import Query
-from .._reach import NoReach
-from .packed import Given, given_document
+from ..pieces import Piece, cuts
+from .packed import Given, PieceOfDocument, given_document
 
-__all__ = ['Part', 'PieceOfDocument', 'done_in_order', 'parts_of_documents', 'read_aside', 'written_aside']
+__all__ = ['Part', 'done_in_order', 'parts_of_documents', 'read_aside', 'written_aside']
 
 _LEAST = 4_000_000  # bytes of a document that is taken in pieces, and of a piece
 _TOGETHER, _MOST = 1_000_000, 64  # bytes of small documents that one process does, and how many
@@ -33,25 +31,6 @@ class Part(NamedTuple):
         """The document, or what has the rows of the piece alone; ``refuse_long`` and ``is_read_once`` are as of `given_document`."""
         found = given_document(self.name, refuse_long, is_read_once=is_read_once)
         return found if self.piece is None else PieceOfDocument(found, self.piece)
-
-
-class PieceOfDocument(Given):
-    """A document of which a piece alone is searched; its bytes and places are those of the whole."""
-
-    is_whole = False
-
-    def __init__(self, whole: Given, piece: Piece) -> None:
-        super().__init__(whole.name, whole.document, whole._file)
-        self.piece = piece
-
-    def rows(self, query: Query) -> Iterator[Row]:
-        """The rows whose first span begins in the piece."""
-        path = self.name if self._file is None else f'/dev/fd/{self._file.fileno()}'
-        return rows_of_piece(query, path, *self.piece)
-
-    def count(self, query: Query) -> int:
-        """How many rows begin in it."""
-        return sum(1 for _ in self.rows(query))
 
 
 def parts_of_documents(names: Sequence[str], jobs: int, lines: Optional[int]) -> Iterator[Part]:

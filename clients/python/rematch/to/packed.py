@@ -17,10 +17,10 @@ from typing import IO, Any, Callable, Iterator, List, Optional
 from ..documents import MOST_BYTES, Document, unreadable, packed_by
 from ..faults import DocumentError, RematchError
 from ..match import Row
-from ..pieces import NoReach, reach, rows_in_pieces, rows_of_stream, too_long_a_line
+from ..pieces import NoReach, Piece, reach, rows_in_pieces, rows_of_piece, rows_of_stream, too_long_a_line
 from ..query import Query
 
-__all__ = ['Given', 'Held', 'Streamed', 'given_document', 'line_numbers', 'reach_of_long', 'too_long']
+__all__ = ['Given', 'Held', 'PieceOfDocument', 'Streamed', 'given_document', 'line_numbers', 'reach_of_long', 'too_long']
 
 _COPIED = 1 << 22
 _MOST_UNPACKED = 1 << 34  # bytes of what is packed, or comes by a pipe
@@ -108,6 +108,25 @@ class Given:
     def count(self, query: Query) -> int:
         """How many rows it has."""
         return query.count(self.document) if self.document is not None else sum(1 for _ in self.rows(query))
+
+
+class PieceOfDocument(Given):
+    """A document of which a piece alone is searched; its bytes and places are those of the whole."""
+
+    is_whole = False
+
+    def __init__(self, whole: Given, piece: Piece) -> None:
+        super().__init__(whole.name, whole.document, whole._file)
+        self.piece = piece
+
+    def rows(self, query: Query) -> Iterator[Row]:
+        """The rows whose first span begins in the piece."""
+        path = self.name if self._file is None else f'/dev/fd/{self._file.fileno()}'
+        return rows_of_piece(query, path, *self.piece)
+
+    def count(self, query: Query) -> int:
+        """How many rows begin in it."""
+        return sum(1 for _ in self.rows(query))
 
 
 class Streamed(Given):

@@ -16,7 +16,7 @@ from http.server import BaseHTTPRequestHandler, ThreadingHTTPServer
 from typing import Any, Dict, Iterator, List, Optional, Tuple
 
 from ..advice import is_of_ends
-from ..documents import Document
+from ..documents import Document, document_of_text
 from ..faults import DocumentError, ProgramError, QueryError, RematchError
 from ..match import Row
 from ..query import Query
@@ -141,7 +141,7 @@ class Player:
             self._rows += [match.row for match in session.next(min(1000, first + _SCREEN - len(self._rows)))]
         shown = self._rows[first:first + _SCREEN]
         has_more = session.more or first + _SCREEN < len(self._rows)
-        document = _document(self.document)
+        document = document_of_text(self.document)
         html = section(document, session.variables, shown, None, 1, first, _LINES_OF_SPAN)
         return {'html': html, 'first': first, 'rows': len(shown), 'found': len(self._rows), 'more': has_more,
                 'all': not session.more, 'advice': self._advice(session, document)}
@@ -163,12 +163,6 @@ class Player:
             return self._server.open(self._expansion.text, self.document)
         except QueryError as fault:
             raise self._expansion.fault(fault) from None
-
-
-def _document(text: str) -> Document:
-    document = Document(b'')
-    document._take_text(text)
-    return document
 
 
 def _units(part: bytes) -> int:

@@ -14,12 +14,12 @@ from itertools import count
 from typing import Callable, Iterable, Iterator, List, NamedTuple, Optional, Sequence, Set, TextIO, Tuple
 from urllib.parse import quote
 
+from ..bounds import NoReach, length_of_printed
 from ..documents import MOST_BYTES
 from ..faults import DocumentError
 from ..match import Row
 from ..query import Query
 from ..reader import read
-from .._reach import NoReach, length_of_printed
 from .circles import Circles, blocks_of
 from .fastq import are_reads, reads_of
 from .patterns import MATCH

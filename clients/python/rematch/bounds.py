@@ -35,7 +35,7 @@ def reach_of_printed(printed: bytes) -> int:
     >>> reach_of_printed(rb'/^!x{a}/')
     Traceback (most recent call last):
       ...
-    rematch._reach.NoReach: an anchor ties the formula /^!x{a}/ to an end of the document
+    rematch.bounds.NoReach: an anchor ties the formula /^!x{a}/ to an end of the document
     """
     return _Reach(read(printed, is_limited=False), lambda one: float(one.fits_line_feed)).of_all(_NO_END_OF_LINES)
 
@@ -69,7 +69,7 @@ def length_of_printed(printed: bytes) -> int:
     >>> length_of_printed(rb'/!x{a*}/')
     Traceback (most recent call last):
       ...
-    rematch._reach.NoReach: a repeat has no end
+    rematch.bounds.NoReach: a repeat has no end
     """
     return _Reach(read(printed, is_limited=False), lambda one: 1.0).of_all('a repeat has no end')
 
