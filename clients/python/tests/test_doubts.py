@@ -182,7 +182,7 @@ class Sequences(Folder):
     def test_no_fasta_is_told_alone(self):
         path = self.file('d', b'a line of letters\n')
         for form in ('bed', 'gff', 'fasta'):
-            self.assertEqual(asked(form, '-e', '/!x{N}/', path), (5, '', path + ': no record of FASTA, which begins with > at the start of a line\n'))
+            self.assertEqual(asked(form, '-e', '/!x{N}/', path), (5, '', path + ': no record of FASTA, which begins with > at the start of a line, or of FASTQ, which begins with @\n'))
 
 
 class Several(Folder):

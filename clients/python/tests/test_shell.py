@@ -29,7 +29,8 @@ def options():
 def options_of(command):
     """The options of a command beside the program, as it tells them."""
     told = run([os.path.join(CLIENTS, command), '--help']).stdout
-    return [option for option in re.findall(r'^  (?:-h, )?(--?[A-Za-z-]+)', told, re.M)]
+    heads = '\n'.join(re.findall(r'^  (-[^\s,]+(?:, -\S+)?)', told, re.M))
+    return [option for option in re.findall(r'--?[A-Za-z-]+', heads) if option != '-h']
 
 
 class Bash(unittest.TestCase):
