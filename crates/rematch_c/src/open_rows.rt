@@ -104,7 +104,7 @@ impl OpenRows {
             limit: asked.options.max_table.min(MOST_TABLE),
         };
         let prepared = query.prepared();
-        prepared.vars();
+        prepared.vars(); // the automaton was compiled from the query, which this call says
         let mut steps = Steps::<L>::new(blank);
         match prepared.open(alloc, asked.document, after, options, &mut steps) {
             Ok(rows) => kept(alloc, query, asked.document, rows, note),

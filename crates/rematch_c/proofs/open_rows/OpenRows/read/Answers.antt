@@ -15,11 +15,11 @@ returns-in-Ok-clause-rows g c =
     let d = asked.document.now in
     let after = row_kept (option_copied c.args.after) in
     let is = c.prepared-prepared.ensures in
-    rows_after c.args.query.now d asked.options.now c.options.limit after c.in-Ok.rows.rest c.kept.result c.min.ensures
+    rows_after c.args.query.now d asked.options.now c.min.result after c.in-Ok.rows.rest c.kept.result c.min.ensures
     (subst (λ (p : PreparedQuery). IsCompiled (tree p).query (automaton_of p)) is c.vars.ensures.compiled)
     (subst (λ (p : PreparedQuery). AreLeft (tree p).query d p.names after c.in-Ok.rows.rest) is c.in-Ok.ensures.left)
-    (subst (λ (p : PreparedQuery). IsReadWithin p.graph (tree p).query d asked.options.now.filter c.options.limit) is c.in-Ok.ensures.weighs)
-    (subst (λ (p : PreparedQuery). AreAtomsWithin (tree p).query d asked.options.now.filter c.options.limit) is c.in-Ok.ensures.atoms)
+    (subst (λ (p : PreparedQuery). IsReadWithin p.graph (tree p).query d asked.options.now.filter c.min.result) is c.in-Ok.ensures.weighs)
+    (subst (λ (p : PreparedQuery). AreAtomsWithin (tree p).query d asked.options.now.filter c.min.result) is c.in-Ok.ensures.atoms)
     c.kept.ensures.query c.kept.ensures.document c.kept.ensures.rest
 
 pub returns-in-Ok-clause-fits : goal.returns-in-Ok-clause-fits
