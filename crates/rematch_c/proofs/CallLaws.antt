@@ -109,7 +109,7 @@ shared_none home other number empty none is =
 -- ---- a document
 
 pub opened : (held : Held) (p : PreparedQuery) (d : List ℕ) (options : ReadOptions) (r : QueryRows) (home : Option Held) (old note : ShortText) (how : Status) → held ≡ Query p →
-    AreAllRowsOf p d r → IsText old [] → Holds (Rows r) old home note how → Opened (Some held) d options home note (exit_status_of how)
+    AreAllRowsOf p d options r → IsText old [] → Holds (Rows r) old home note how → Opened (Some held) d options home note (exit_status_of how)
 opened held p d options r home old note how is rows silent Holds.holds = Opened.opened (ap Some is) rows silent
 opened held p d options r home old note how is rows silent (Holds.want want) = Opened.refused status.Memory (ap Some is) (inr (OutOfMemory, tt, (refl, want)))
 
@@ -132,7 +132,7 @@ opened_none home rows d options note number empty none silent is =
 -- ---- a document behind a cursor
 
 pub resumed : (held : Held) (p : PreparedQuery) (d cursor : List ℕ) (options : ReadOptions) (r : QueryRows) (home : Option Held) (old note : ShortText) (how : Status) → held ≡ Query p →
-    AreRowsBehind p d cursor r → IsText old [] → Holds (Rows r) old home note how → Resumed (Some held) d cursor options home note (exit_status_of how)
+    AreRowsBehind p d cursor options r → IsText old [] → Holds (Rows r) old home note how → Resumed (Some held) d cursor options home note (exit_status_of how)
 resumed held p d cursor options r home old note how is rows silent Holds.holds = Resumed.resumed (ap Some is) rows silent
 resumed held p d cursor options r home old note how is rows silent (Holds.want want) =
     Resumed.refused status.Memory (ap Some is) (IsResumeRefusal.unread rows.kept rows.text (inr (OutOfMemory, tt, (refl, want))))
@@ -204,12 +204,23 @@ none_fit most room (suc width) is some =
     let below : room < 1 * suc width = (div-lt_iff_lt-mul {k = suc width} {x = room} {y = 1} (omega arith)).0 small in
     omega (arith, below)
 
+-- where some fit, there is room for one
+some_fit : (most room width : ℕ) → 0 < rows_within most room width → width ≤ room
+some_fit most room zero some = omega arith
+some_fit most room (suc width) some =
+    let chosen : rows_within most room (suc width) ≡ min most (room / suc width) = ap (λ (b : Bool). cond b most (min most (room / suc width))) (eqb-suc-zero width) in
+    let wide : ¬ (room < suc width) = λ small.
+    let low : room / suc width < 1 = (div-lt_iff_lt-mul {k = suc width} {x = room} {y = 1} (omega arith)).1 (omega (arith, small)) in
+    omega (arith, chosen, some, low) in
+    omega (arith, wide)
+
 pub filled : (held : Held) (r new : QueryRows) (before after : List ℕ) (most fitting given : ℕ) → held ≡ Rows r → new.query ≡ r.query → new.document ≡ r.document →
-    fitting ≡ rows_within most (length before) (2 * length r.query.names) →
+    (0 < most → 0 < fitting) → fitting ≡ rows_within most (length before) (2 * length r.query.names) →
     Given (checks_by relation r.query) r.query.names r.document r.rest new.rest before after fitting given → Filled (Some held) (Some (Rows new)) before after most given 0
-filled held r new before after most fitting given is query document fits rows =
+filled held r new before after most fitting given is query document some fits rows =
+    let room : 0 < most → 2 * length r.query.names ≤ length before = λ wanted. some_fit most (length before) (2 * length r.query.names) (subst (λ (n : ℕ). 0 < n) fits (some wanted)) in
     subst (λ (h : Held). Filled (Some h) (Some (Rows new)) before after most given 0) (sym is)
-    (Filled.filled query document (subst (λ (n : ℕ). Given (checks_by relation r.query) r.query.names r.document r.rest new.rest before after n given) fits rows))
+    (Filled.filled query document room (subst (λ (n : ℕ). Given (checks_by relation r.query) r.query.names r.document r.rest new.rest before after n given) fits rows))
 
 pub filled_no_room : (held : Held) (r : QueryRows) (out : List ℕ) (most fitting given : ℕ) → held ≡ Rows r → given ≡ 0 → 0 < most → fitting ≡ 0 →
     fitting ≡ rows_within most (length out) (2 * length r.query.names) → Filled (Some held) (Some (Rows r)) out out most given 8

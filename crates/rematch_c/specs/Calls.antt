@@ -1,5 +1,5 @@
 -- What each call answers.
-use Rattle.std.specs.Prelude.{◌≡◌, ℕ, ◌*◌, ◌<◌, List, [], length, take, drop, slice_get, Option, None, Some}
+use Rattle.std.specs.Prelude.{◌≡◌, ℕ, ◌*◌, ◌<◌, ◌≤◌, List, [], length, take, drop, slice_get, Option, None, Some}
 use Rattle.spanner_model.specs.Captures.{VarName}
 use Rattle.row_cursor.specs.CursorTexts.{cursor_text}
 use Rattle.spanner_model.specs.Answers.{AreResultNames, SpanRow}
@@ -58,7 +58,7 @@ pub data Shared : Option Held → Option Held → ℕ → Type 0 where
 
 -- a document was read, or refused
 pub data Opened (held : Option Held) (document : List ℕ) (options : ReadOptions) : Option Held → ShortText → ℕ → Type 0 where
-  opened : {p : PreparedQuery} {r : QueryRows} {note : ShortText} → held ≡ Some (Query p) → AreAllRowsOf p document r → IsText note [] →
+  opened : {p : PreparedQuery} {r : QueryRows} {note : ShortText} → held ≡ Some (Query p) → AreAllRowsOf p document options r → IsText note [] →
       Opened held document options (Some (Rows r)) note 0
   refused : {p : PreparedQuery} {note : ShortText} (how : Status) → held ≡ Some (Query p) → IsReadRefusal p document options None how note →
       Opened held document options None note (exit_status_of how)
@@ -66,15 +66,16 @@ pub data Opened (held : Option Held) (document : List ℕ) (options : ReadOption
 
 -- a document was read for the rows behind a cursor, or refused
 pub data Resumed (held : Option Held) (document cursor : List ℕ) (options : ReadOptions) : Option Held → ShortText → ℕ → Type 0 where
-  resumed : {p : PreparedQuery} {r : QueryRows} {note : ShortText} → held ≡ Some (Query p) → AreRowsBehind p document cursor r → IsText note [] →
+  resumed : {p : PreparedQuery} {r : QueryRows} {note : ShortText} → held ≡ Some (Query p) → AreRowsBehind p document cursor options r → IsText note [] →
       Resumed held document cursor options (Some (Rows r)) note 0
   refused : {p : PreparedQuery} {note : ShortText} (how : Status) → held ≡ Some (Query p) → IsResumeRefusal p document cursor options how note →
       Resumed held document cursor options None note (exit_status_of how)
   no_query : {note : ShortText} → IsNoQuery held → IsText note [] → Resumed held document cursor options None note 2
 
--- the next rows were given
+-- the next rows were given, where one has room or none is wanted
 pub data Filled : Option Held → Option Held → List ℕ → List ℕ → ℕ → ℕ → ℕ → Type 0 where
   filled : {r new : QueryRows} {before after : List ℕ} {most given : ℕ} → new.query ≡ r.query → new.document ≡ r.document →
+      (0 < most → 2 * length r.query.names ≤ length before) →
       Given (checks_by relation r.query) r.query.names r.document r.rest new.rest before after (rows_within most (length before) (2 * length r.query.names)) given →
       Filled (Some (Rows r)) (Some (Rows new)) before after most given 0
   no_room : {r : QueryRows} {out : List ℕ} {most : ℕ} → 0 < most → length out < 2 * length r.query.names →

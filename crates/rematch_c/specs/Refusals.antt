@@ -1,5 +1,5 @@
 -- Why a query or a document is refused.
-use Rattle.std.specs.Prelude.{◌≡◌, ◌≢◌, ◌⊎◌, ℕ, ◌^◌, ◌<◌, List, length, Option, Some, min, codes}
+use Rattle.std.specs.Prelude.{◌≡◌, ◌≢◌, ◌⊎◌, ℕ, ◌^◌, ◌<◌, List, length, Option, Some, codes}
 use Rattle.spanner_model.specs.Tested.{TestedTree}
 use Rattle.query_parser.specs.declared.fault.QueryFault.{QueryFault}
 use Rattle.marked_automaton.specs.declared.fault.SizeFault.{SizeFault}
@@ -20,6 +20,7 @@ use Rattle.rm_outside.specs.declared.status.Status.{Status}
 use Rattle.rm_outside.specs.declared.status.Status.TheVariants as status
 use Rattle.rematch_c.specs.declared.open_rows.ReadOptions.{ReadOptions}
 use Rattle.rematch_c.specs.declared.short_text.ShortText.{ShortText}
+use Rattle.rematch_c.specs.Rows.{limit_of}
 use Rattle.rematch_c.specs.Texts.{IsText}
 
 -- the tests that the program knows
@@ -59,7 +60,7 @@ IsUnread limit OutOfMemory = λ how note. (how ≡ status.Memory) × IsWant note
 abbrev pub IsReadRefusal : PreparedQuery → List ℕ → ReadOptions → Option Kept → Status → ShortText → Type 0
 IsReadRefusal p d options after how note =
     ((2 ^ 28 < length d) × IsLongRefusal how note)
-    ⊎ ((fault : BeginFault) × IsBeginFault (tree p).query d options.filter after (min options.max_table 100000000) fault × IsUnread (min options.max_table 100000000) fault how note)
+    ⊎ ((fault : BeginFault) × IsBeginFault (tree p).query d options.filter after (limit_of options) fault × IsUnread (limit_of options) fault how note)
 
 -- rows behind a cursor are refused: its text is that of no cursor, or of one over other variables; or the document is refused
 pub data IsResumeRefusal (p : PreparedQuery) (d cursor : List ℕ) (options : ReadOptions) (how : Status) (note : ShortText) : Type 0 where

@@ -11,6 +11,9 @@ use Rattle.spanner_engine.specs.Fitting.{AreLast}
 use Rattle.spanner_engine.specs.Left.{AreLeft}
 use Rattle.spanner_library.specs.Cells.{row_cells}
 use Rattle.spanner_library.specs.Library.{PreparedQuery, prepared_code, tree}
+use Rattle.rematch_program.specs.Pages.{CursorFits}
+use Rattle.rematch_program.specs.Run.{IsHeldWithin}
+use Rattle.rematch_c.specs.declared.open_rows.ReadOptions.{ReadOptions}
 
 -- the answers of a query on a document that were not tried yet
 pub record QueryRows : Type 0 where
@@ -28,19 +31,27 @@ rows_code =
 abbrev pub AreLastRows : PreparedQuery → List ℕ → List SpanRow → Type 0
 AreLastRows p d rest = (length d ≤ 2 ^ 28) × AreLast (tree p).query d p.names rest
 
--- the answers of the query on the document behind this row are to come, or all
-abbrev pub AreRowsAfter : PreparedQuery → List ℕ → Option SpanRow → QueryRows → Type 0
-AreRowsAfter p d after r = (r.query ≡ p) × (r.document ≡ d) × AreLeft (tree p).query d p.names after r.rest
+-- what is held to read a document may weigh so much, and the filter of each atom
+abbrev pub limit_of : ReadOptions → ℕ
+limit_of options = min options.max_table 100000000
+
+-- the answers of the query on the document behind this row are to come, or all; what they are read from keeps the limit
+pub record AreRowsAfter (p : PreparedQuery) (d : List ℕ) (options : ReadOptions) (after : Option SpanRow) (r : QueryRows) : Type 0 where
+  pub query : r.query ≡ p
+  pub document : r.document ≡ d
+  pub left : AreLeft (tree p).query d p.names after r.rest
+  pub held : IsHeldWithin options.filter (tree p).query d (limit_of options)
 
 -- all answers of the query on the document are to come
-abbrev pub AreAllRowsOf : PreparedQuery → List ℕ → QueryRows → Type 0
-AreAllRowsOf p d = AreRowsAfter p d None
+abbrev pub AreAllRowsOf : PreparedQuery → List ℕ → ReadOptions → QueryRows → Type 0
+AreAllRowsOf p d options = AreRowsAfter p d options None
 
--- the same behind the row that a cursor keeps
-pub record AreRowsBehind (p : PreparedQuery) (d cursor : List ℕ) (r : QueryRows) : Type 0 where
+-- the same behind the row that a cursor keeps, which fits the document
+pub record AreRowsBehind (p : PreparedQuery) (d cursor : List ℕ) (options : ReadOptions) (r : QueryRows) : Type 0 where
   pub kept : Kept
   pub text : IsCursorText p.names kept.row kept.length cursor
-  pub rows : AreRowsAfter p d (Some kept.row) r
+  pub fits : CursorFits (length d) (Some kept)
+  pub rows : AreRowsAfter p d options (Some kept.row) r
 
 -- these are the numbers of a row of so many variables, of which no span ends past n
 pub record IsRowIn (variables n : ℕ) (numbers : List ℕ) (row : SpanRow) : Type 0 where

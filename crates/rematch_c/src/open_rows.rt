@@ -10,6 +10,7 @@ ghost use Rattle.spanner_engine.specs.Fitting.{AreLast};
 ghost use Rattle.known_tests.specs.Relations.{relation};
 ghost use Rattle.note_texts.specs.Notes.{note_text};
 ghost use Rattle.spanner_library.specs.Library.{Given, checks_by, tree};
+ghost use Rattle.rematch_program.specs.Pages.{CursorFits};
 ghost use Rattle.rematch_c.specs.Refusals.{IsLongRefusal, IsReadRefusal, IsResumeRefusal, IsUnread, Says};
 ghost use Rattle.rematch_c.specs.Rows.{AreRowsAfter, AreRowsBehind, IsRowIn, rows_within};
 ghost use Rattle.rematch_c.specs.Texts.{IsText};
@@ -88,7 +89,9 @@ impl OpenRows {
         requires parts { blank.parts ≡ L.parts }
         requires some { 0 < L.parts }
         requires row { IfSome (option_copied after) (λ kept. length kept.row ≡ length query.now.names) }
-        ensures rows { IfOk result (AreRowsAfter query.now asked.now.document.now (row_kept (option_copied after.entry))) }
+        ensures rows { IfOk result (AreRowsAfter query.now asked.now.document.now asked.now.options.now
+            (row_kept (option_copied after.entry))) }
+        ensures fits { OnOk result (CursorFits (length asked.now.document.now) (option_copied after.entry)) }
         ensures silent { OnOk result (IsText note.new []) }
         ensures refused { IfErr result (λ status.
             IsReadRefusal query.now asked.now.document.now asked.now.options.now (option_copied after.entry) status note.new) }
@@ -100,11 +103,10 @@ impl OpenRows {
             filter: asked.options.filter,
             limit: asked.options.max_table.min(MOST_TABLE),
         };
+        let prepared = query.prepared();
+        prepared.vars(); // the automaton was compiled from the query, which this call says
         let mut steps = Steps::<L>::new(blank);
-        match query
-            .prepared()
-            .open(alloc, asked.document, after, options, &mut steps)
-        {
+        match prepared.open(alloc, asked.document, after, options, &mut steps) {
             Ok(rows) => kept(alloc, query, asked.document, rows, note),
             Err(fault) => Err(unread(alloc, options.limit, fault, note)),
         }
@@ -122,7 +124,7 @@ impl OpenRows {
         requires name { blank.name ≡ L.name }
         requires parts { blank.parts ≡ L.parts }
         requires some { 0 < L.parts }
-        ensures rows { IfOk result (AreRowsBehind query.now asked.now.document.now cursor.now) }
+        ensures rows { IfOk result (AreRowsBehind query.now asked.now.document.now cursor.now asked.now.options.now) }
         ensures silent { OnOk result (IsText note.new []) }
         ensures refused { IfErr result (λ status.
             IsResumeRefusal query.now asked.now.document.now cursor.now asked.now.options.now status note.new) }

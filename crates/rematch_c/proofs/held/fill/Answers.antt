@@ -13,5 +13,6 @@ returns-then-most-gt0 c =
 
 pub returns : goal.returns
 returns c =
-    filled c.args.held.now c.in-Rows.rows c.fill.new.self c.args.out.now c.fill.new.out c.args.most c.fitting-fitting.result c.fill.result c.in-Rows.is c.fill.ensures.query c.fill.ensures.document
+    let some : 0 < c.args.most → 0 < c.fitting-fitting.result = λ wanted. search rules in
+    filled c.args.held.now c.in-Rows.rows c.fill.new.self c.args.out.now c.fill.new.out c.args.most c.fitting-fitting.result c.fill.result c.in-Rows.is c.fill.ensures.query c.fill.ensures.document some
     c.fitting-fitting.ensures c.fill.ensures.given

@@ -10,7 +10,8 @@ pub returns-in-Ok-clause-rows : goal.returns-in-Ok-clause-rows
 returns-in-Ok-clause-rows g c =
     let named = c.vars.ensures.value ∙ ap (λ (p : PreparedQuery). p.names) c.prepared.ensures in
     let text = subst (λ (names : List VarName). IsCursorText names c.in-Ok.kept.row c.in-Ok.kept.length c.args.cursor.now) named c.in-Ok.ensures.row in
-    rows_behind c.args.query.now c.args.asked.now.document.now c.args.cursor.now c.in-Ok.kept c.read-in-Ok.result text c.read-in-Ok.ensures.rows
+    rows_behind c.args.query.now c.args.asked.now.document.now c.args.cursor.now c.args.asked.now.options.now c.in-Ok.kept c.read-in-Ok.result text
+    c.read-in-Ok.ensures.fits c.read-in-Ok.ensures.rows
 
 pub returns-in-Ok-clause-refused : goal.returns-in-Ok-clause-refused
 returns-in-Ok-clause-refused g c =
