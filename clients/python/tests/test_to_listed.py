@@ -85,8 +85,8 @@ class InFormulas(Folder):
         run = subprocess.run([os.path.join(CLIENTS, 'rematch-piece'), query, document, '0', '2'], stdout=subprocess.PIPE,
                              env=dict(os.environ, REMATCH=PROGRAM), check=True)
         self.assertEqual(run.stdout, b'w=0-2\n')
-        self.file('w2.txt', 'e\u0301')
-        self.assertEqual(lines('count', '--silent', '--normal', 'nfc', '-q', self.file('b.query', '/!w{%{w2.txt}}/'), '-', stdin='é'.encode())[0], ['1 -'])
+        self.file('accents.txt', 'e\u0301')
+        self.assertEqual(lines('count', '--silent', '--normal', 'nfc', '-q', self.file('b.query', '/!w{%{accents.txt}}/'), '-', stdin='é'.encode())[0], ['1 -'])
 
     def test_refused(self):
         self.words()
