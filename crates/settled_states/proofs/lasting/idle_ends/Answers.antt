@@ -1,0 +1,53 @@
+use Rattle.std.proofs.Common.{◌≡◌, ℕ, ◌+◌, Bool, true, Vec, Global, length, take, sym, ap, subst, arith, ◌∙◌}
+use Rattle.std.proofs.Math.ListN.{set, length-set}
+use Rattle.std.proofs.lemmas.Bool.{false≢true}
+use Rattle.span_core.specs.Lists.{Has}
+use Rattle.span_core.proofs.HasLaws.{Has-get_or}
+use Rattle.marked_automaton.specs.declared.way.Stop.{Stop}
+use Rattle.marked_automaton.specs.Accepting.{Gathers}
+use Rattle.marked_automaton.proofs.Gathering.{gathers_kept, gathers_set}
+use Rattle.settled_states.specs.States.{IsIdleEnd}
+use Rattle.settled_states.proofs.lasting.idle_ends.Goals.{then-is_idle_end, else-is_idle_end}
+use Rattle.settled_states.proofs.lasting.idle_ends.Goals as goal
+
+pub is_idle_end-requires : goal.is_idle_end-requires
+is_idle_end-requires c =
+    let stops = c.args.stops.now in
+    let x = c.stop-item.result in
+    c.requires x (subst (Has stops) (sym c.stop-item.is) (Has-get_or stops c.loop-stop.stop-index x c.loop-stop-test.true))
+
+pub index_mut-requires : goal.index_mut-requires
+index_mut-requires c =
+    let stops = c.args.stops.now in
+    let x = c.stop-item.result in
+    let has = subst (Has stops) (sym c.stop-item.is) (Has-get_or stops c.loop-stop.stop-index x c.loop-stop-test.true) in
+    omega (arith, c.requires x has, c.loop-stop.invariant.len, c.loop-stop.flags.ok.0)
+
+pub loop-stop-preserved : goal.loop-stop-preserved
+loop-stop-preserved c =
+    let stops = c.args.stops.now in
+    let x = c.stop-item.result in
+    let i = c.loop-stop.stop-index in
+    let flags = c.loop-stop.flags.items in
+    let inv = c.loop-stop.invariant in
+    let has = subst (Has stops) (sym c.stop-item.is) (Has-get_or stops i x c.loop-stop-test.true) in
+    let P : Stop → Type 0 = IsIdleEnd c.args.automaton.now.graph in
+    let place : Stop → ℕ = λ (y : Stop). y.state in
+    elim c.if-is_idle_end.branch [
+      | then-is_idle_end w ↦
+          let items : c.if-is_idle_end.flags.items ≡ set flags x.state true = ap (λ (v : Vec Bool Global). v.items) w.flags-is in
+          record {
+            len = ap length items ∙ (length-set flags x.state true ∙ inv.len);
+            gathers = subst (Gathers P place (take (i + 1) stops)) (sym items)
+                (gathers_set P place stops flags i x c.loop-stop-test.true (sym c.stop-item.is) inv.gathers (c.is_idle_end.ensures.0 w.if-is_idle_end.true)
+                (omega (arith, c.requires x has, inv.len)));
+          }
+      | else-is_idle_end w ↦
+          let items : c.if-is_idle_end.flags.items ≡ flags = ap (λ (v : Vec Bool Global). v.items) w.flags-is in
+          record {
+            len = ap length items ∙ inv.len;
+            gathers = subst (Gathers P place (take (i + 1) stops)) (sym items)
+                (gathers_kept P place stops flags i x c.loop-stop-test.true (sym c.stop-item.is) inv.gathers
+                (λ t. false≢true (sym w.if-is_idle_end.false ∙ c.is_idle_end.ensures.1 t)));
+          }
+    ]
