@@ -1,5 +1,5 @@
--- Bytes on which ways without marks lead to flagged states, and the states that are lasting by them.
-use Rattle.std.proofs.Common.{◌≡◌, ℕ, zero, suc, ◌+◌, ◌<◌, ◌≤◌, ◌↔◌, ◌⊎◌, Bool, true, false, not, ◌&&◌, ◌||◌, List, [], length, get_or, take, replicate, inl, inr, refl, sym, ap, subst, arith, ◌∙◌}
+-- Bytes on which ways without marks lead to flagged states, and what is left of the flags by them.
+use Rattle.std.proofs.Common.{◌≡◌, ℕ, zero, suc, ◌+◌, ◌<◌, ◌≤◌, ◌↔◌, ◌⊎◌, Bool, true, false, not, ◌&&◌, ◌||◌, IsTrue, List, [], ◌∷◌, length, get_or, take, replicate, inl, inr, refl, sym, ap, subst, arith, ◌∙◌}
 use Rattle.std.proofs.Math.ListN.{set as put}
 use Rattle.std.specs.Cmp.{nat_cmp_total}
 use Rattle.std.specs.FinSet as bytes
@@ -11,18 +11,19 @@ use Rattle.span_core.specs.Lists.{Has}
 use Rattle.span_core.proofs.ByteSetLaws.{all_contain, all_past, same_bytes}
 use Rattle.span_core.proofs.HasLaws.{Has-take_more_before, Has-take_more_cases, Has-take_more_here}
 use Rattle.marked_automaton.specs.Accepting.{Gathers}
-use Rattle.marked_automaton.specs.Automaton.{Automaton, ByteClass, HasByte, IsMarked, Marked, idle_way}
+use Rattle.marked_automaton.specs.Automaton.{Automaton, ByteClass, HasByte}
 use Rattle.marked_automaton.specs.Reach.{IsFlagged}
+use Rattle.marked_automaton.specs.Trimmed.{count_set}
 use Rattle.marked_automaton.specs.declared.way.Stop.{Stop}
 use Rattle.marked_automaton.specs.declared.way.Way.{Way}
 use Rattle.marked_automaton.proofs.Passing.{or_left, or_right}
-use Rattle.settled_states.specs.Covering.{AreBytesInto, IsCovered, LeadsPlainly}
-use Rattle.settled_states.specs.States.{AreLasting, EndsIdle, EndsPlain, IsIdleEnd, LeadsInto}
+use Rattle.settled_states.specs.Covering.{AreBytesInto, HasEachByte, IsUncovered, LeadsInto, LeadsPlainly}
+use Rattle.settled_states.specs.States.{AreLasting, Told}
 
 -- ---- sets of bytes
 
 -- a set outside of which there is no byte has each
-pub has_each : (s rest : ByteClass) → rest ≡ bytes.difference (bytes_between 0 255) s → rest ≡ bytes.empty → (b : ℕ) → b < 256 → HasByte s b
+pub has_each : (s rest : ByteClass) → rest ≡ bytes.difference (bytes_between 0 255) s → rest ≡ bytes.empty → HasEachByte s
 has_each s rest is none b less = go (contains s b) outside
   where
     outside : not (contains s b) ≡ false
@@ -35,7 +36,7 @@ has_each s rest is none b less = go (contains s b) outside
     go false e = absurd (false≢true (sym e))
 
 -- and one that has each has none outside
-pub none_outside : (s rest : ByteClass) → rest ≡ bytes.difference (bytes_between 0 255) s → ((b : ℕ) → b < 256 → HasByte s b) → rest ≡ bytes.empty
+pub none_outside : (s rest : ByteClass) → rest ≡ bytes.difference (bytes_between 0 255) s → HasEachByte s → rest ≡ bytes.empty
 none_outside s rest is each =
     is ∙ same_bytes (bytes.difference (bytes_between 0 255) s) bytes.empty (λ q. contains-difference nat_cmp_total (bytes_between 0 255) s q ∙ (by q ∙ sym (contains-empty _ q)))
   where
@@ -47,7 +48,7 @@ none_outside s rest is each =
 
 -- ---- one way more
 
-abbrev no_bytes : ByteClass
+abbrev pub no_bytes : ByteClass
 no_bytes = bytes.empty
 
 module _ (good : List Bool) where
@@ -96,50 +97,85 @@ module _ (good : List Bool) where
               )
         ]
 
--- ---- the states that are lasting by them
+-- ---- some states left out
 
--- what three loops found: the idle states with an end, the bytes that lead there, and the states that have all of these
-pub record ShowsLasting (A : Marked) (flags : List Bool) : Type 0 where
-  pub marked : IsMarked A
-  pub idle : List Bool
-  pub sets : List ByteClass
-  pub found : Gathers (IsIdleEnd A.graph) (λ (x : Stop). x.state) A.graph.stops idle
-  pub into : AreBytesInto A.graph.ways idle sets
-  pub covered : Gathers (IsCovered sets) (λ (x : Stop). x.state) A.graph.stops flags
-
-module _ (A : Marked) (flags : List Bool) (s : ShowsLasting A flags) where
-  pub lasting_are : (q : ℕ) → IsFlagged flags q ↔ (EndsPlain A.graph q × LeadsInto A.graph (EndsIdle A.graph) q)
-  lasting_are q = (there, back)
+module _ (sets : List ByteClass) (k : ℕ) (old new : List Bool) (flag : Bool) (at : IsFlagged new k ↔ IsTrue flag)
+    (so_far : (q : ℕ) → IsFlagged new q ↔ (IsFlagged old q × (q < k → HasEachByte (get_or sets q no_bytes)))) where
+  -- one state is left out
+  pub left_out : IsUncovered flag (get_or sets k no_bytes) → (q : ℕ) → IsFlagged (put new k false) q ↔ (IsFlagged old q × (q < k + 1 → HasEachByte (get_or sets q no_bytes)))
+  left_out un q = elim (cases_eq q k) [
+    | inl e ↦ (
+        (λ h. absurd (false≢true (sym (unset_here new k) ∙ subst (IsFlagged (put new k false)) e h))),
+        (λ h. absurd (un.lacks (subst (λ i. HasEachByte (get_or sets i no_bytes)) e (h.1 (omega (arith, e)))))),
+      )
+    | inr ne ↦
+        let same : get_or (put new k false) q false ≡ get_or new q false = get_or-set_other new k q false false ne in (
+          (λ h. let r = (so_far q).0 (sym same ∙ h) in (r.0, λ l. r.1 (omega (arith, l, ne)))),
+          (λ h. same ∙ (so_far q).1 (h.0, λ l. h.1 (omega (arith, l)))),
+        )
+  ]
     where
-      there : IsFlagged flags q → EndsPlain A.graph q × LeadsInto A.graph (EndsIdle A.graph) q
-      there h =
-          let x = (s.covered q).0 h in (
-            (x.0, x.1, x.2, x.3.marks),
-            (λ b less. let y = (s.into x.0.state b).0 (x.3.each b less) in (y.0, y.1, y.2 ∙ x.2, y.4, y.3.marks, (s.found y.0.to).0 y.3.good)),
-          )
+      unset_here : (flags : List Bool) (i : ℕ) → get_or (put flags i false) i false ≡ false
+      unset_here [] i = refl
+      unset_here (b ∷ flags) zero = refl
+      unset_here (b ∷ flags) (suc i) = unset_here flags i
 
-      back : EndsPlain A.graph q × LeadsInto A.graph (EndsIdle A.graph) q → IsFlagged flags q
-      back h =
-          let x = h.0 in
-          (s.covered q).1 (
-            x.0,
-            x.1,
-            x.2,
-            record {
-              marks = x.3;
-              each = λ b less. let y = h.1 b less in (s.into x.0.state b).1 (y.0, y.1, y.2 ∙ sym x.2, record { marks = y.4; good = (s.found y.0.to).1 y.5 }, y.3);
-            },
-          )
-
-  -- an idle state leads to itself on each byte
-  pub idle_lasts : (q : ℕ) → EndsIdle A.graph q → IsFlagged flags q
-  idle_lasts q h = (lasting_are q).1 (
-    (h.0, h.1, h.2, h.3.marks),
-    (λ b less. (idle_way q, s.marked.idle_ways q (subst (Has A.graph.idle) h.2 h.3.idle), refl, all_contain b (omega (arith, less)), refl, h)),
+  -- a state stays as it was
+  pub left_as_it_was : (IsTrue flag → HasEachByte (get_or sets k no_bytes)) → (q : ℕ) → IsFlagged new q ↔ (IsFlagged old q × (q < k + 1 → HasEachByte (get_or sets q no_bytes)))
+  left_as_it_was each q = (
+    (λ h.
+        let r = (so_far q).0 h in (
+          r.0,
+          (λ l. elim (cases_eq q k) [
+            | inl e ↦ subst (λ i. HasEachByte (get_or sets i no_bytes)) (sym e) (each (at.0 (subst (IsFlagged new) e h)))
+            | inr ne ↦ r.1 (omega (arith, l, ne))
+          ]),
+        )),
+    (λ h. (so_far q).1 (h.0, λ l. h.1 (omega (arith, l)))),
   )
 
-  pub lasting_last : AreLasting A.graph (IsFlagged flags)
-  lasting_last = record {
-    ways = λ q b lasts less. let y = ((lasting_are q).0 lasts).1 b less in (y.0, y.1, y.2, y.3, y.4, idle_lasts y.0.to y.5);
-    ends = λ q lasts. ((lasting_are q).0 lasts).0;
-  }
+pub fewer_set : (flags : List Bool) (k : ℕ) → IsFlagged flags k → count_set (put flags k false) < count_set flags
+fewer_set [] k h = absurd (false≢true h)
+fewer_set (true ∷ flags) zero h = omega arith
+fewer_set (false ∷ flags) zero h = absurd (false≢true h)
+fewer_set (b ∷ flags) (suc k) h = let rest = fewer_set flags k h in omega (arith, rest)
+
+-- one flag fewer, than when some or none were left out
+pub fewer_then : (old flags new : List Bool) (some : Bool) → (some ≡ false → flags ≡ old) → (some ≡ true → count_set flags < count_set old) → count_set new < count_set flags →
+    count_set new < count_set old
+fewer_then old flags new true same fewer less = let before = fewer refl in omega (arith, before, less)
+fewer_then old flags new false same fewer less = subst (λ xs. count_set new < count_set xs) (same refl) less
+
+-- a set that has each byte is that of a state from which, on each byte, a way leads
+pub covers : (ways : List Way) (good : List Bool) (sets : List ByteClass) → AreBytesInto ways good sets → (q : ℕ) → HasEachByte (get_or sets q no_bytes) ↔ LeadsInto ways (IsFlagged good) q
+covers ways good sets into q = (
+  (λ h b less. let y = (into q b).0 (h b less) in (y.0, y.1, y.2, y.4, y.3.marks, y.3.good)),
+  (λ h b less. let y = h b less in (into q b).1 (y.0, y.1, y.2, record { marks = y.4; good = y.5 }, y.3)),
+)
+
+-- ---- rounds
+
+-- a lasting set is among these, and they have ends without marks
+pub record BoundsLasting (A : Automaton) (flags : List Bool) : Type 0 where
+  pub ends : (q : ℕ) → IsFlagged flags q → (x : Stop) × Has A.stops x × (x.state ≡ q) × (x.marks ≡ 0)
+  pub largest : (y : ℕ → Bool) → AreLasting A (Told y) → (q : ℕ) → Told y q → IsFlagged flags q
+
+module _ (A : Automaton) where
+  pub bounds_first : (flags : List Bool) → Gathers (λ (x : Stop). x.marks ≡ 0) (λ (x : Stop). x.state) A.stops flags → BoundsLasting A flags
+  bounds_first flags gathers = record { ends = λ q h. (gathers q).0 h; largest = λ y lasting q h. (gathers q).1 (lasting.ends q h) }
+
+  module _ (old new : List Bool) (bounds : BoundsLasting A old) (kept : (q : ℕ) → IsFlagged new q ↔ (IsFlagged old q × LeadsInto A.ways (IsFlagged old) q)) where
+    pub bounds_next : BoundsLasting A new
+    bounds_next = record {
+      ends = λ q h. bounds.ends q ((kept q).0 h).0;
+      largest = λ y lasting q h. (kept q).1 (
+        bounds.largest y lasting q h,
+        λ b less. let z = lasting.ways q b h less in (z.0, z.1, z.2, z.3, z.4, bounds.largest y lasting z.0.to z.5),
+      );
+    }
+
+    pub lasting_same : new ≡ old → AreLasting A (IsFlagged new)
+    lasting_same same = record {
+      ways = λ q b h less. let z = ((kept q).0 h).1 b less in (z.0, z.1, z.2, z.3, z.4, subst (λ flags. IsFlagged flags z.0.to) (sym same) z.5);
+      ends = λ q h. bounds.ends q ((kept q).0 h).0;
+    }

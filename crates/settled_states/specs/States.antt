@@ -1,5 +1,5 @@
 -- States from which nothing more comes, and states that stay.
-use Rattle.std.specs.Prelude.{◌≡◌, ℕ, zero, suc, ◌<◌, ◌⊎◌, List}
+use Rattle.std.specs.Prelude.{◌≡◌, ℕ, zero, suc, ◌<◌, ◌⊎◌, Bool, IsTrue, List}
 use Rattle.span_core.specs.Lists.{Has}
 use Rattle.marked_automaton.specs.Automaton.{Automaton, HasByte}
 use Rattle.marked_automaton.specs.declared.way.Stop.{Stop}
@@ -14,6 +14,10 @@ pub record AreSpent (A : Automaton) (X : ℕ → Type 0) : Type 0 where
 pub record AreLasting (A : Automaton) (Y : ℕ → Type 0) : Type 0 where
   pub ways : (q b : ℕ) → Y q → b < 256 → (y : Way) × Has A.ways y × (y.from ≡ q) × HasByte y.bytes b × (y.marks ≡ 0) × Y y.to
   pub ends : (q : ℕ) → Y q → (x : Stop) × Has A.stops x × (x.state ≡ q) × (x.marks ≡ 0)
+
+-- a set of states that is told by a function
+abbrev pub Told : (ℕ → Bool) → ℕ → Type 0
+Told x q = IsTrue (x q)
 
 -- ---- marks that can still be taken
 
@@ -32,22 +36,3 @@ LeadsToMarks ways stops (suc n) q = (y : Way) × Has ways y × (y.from ≡ q) ×
 
 abbrev pub MayTakeMarks : Automaton → ℕ → Type 0
 MayTakeMarks A q = (n : ℕ) × LeadsToMarks A.ways A.stops n q
-
--- ---- ends without marks
-
--- the state has an end without marks
-abbrev pub EndsPlain : Automaton → ℕ → Type 0
-EndsPlain A q = (x : Stop) × Has A.stops x × (x.state ≡ q) × (x.marks ≡ 0)
-
--- the end has no marks, and its state is idle
-pub record IsIdleEnd (A : Automaton) (x : Stop) : Type 0 where
-  pub marks : x.marks ≡ 0
-  pub idle : Has A.idle x.state
-
--- the state has such an end
-abbrev pub EndsIdle : Automaton → ℕ → Type 0
-EndsIdle A q = (x : Stop) × Has A.stops x × (x.state ≡ q) × IsIdleEnd A x
-
--- on each byte a way without marks leads from the state to one of these
-abbrev pub LeadsInto : Automaton → (ℕ → Type 0) → ℕ → Type 0
-LeadsInto A Y q = (b : ℕ) → b < 256 → (y : Way) × Has A.ways y × (y.from ≡ q) × HasByte y.bytes b × (y.marks ≡ 0) × Y y.to

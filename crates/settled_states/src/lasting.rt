@@ -1,57 +1,92 @@
 //! Which states stay accepted, whatever comes.
-ghost use Rattle.std.specs.Prelude.{◌≡◌, ℕ, ◌<◌, ◌↔◌, length, replicate, IfOk, IsTrue};
+ghost use Rattle.std.specs.Prelude.{◌≡◌, ℕ, ◌<◌, ◌↔◌, Bool, true, false, length, replicate, slice_index_or, IfOk, OnOk, IsTrue};
 ghost use Rattle.std.specs.FinSet as bytes;
 ghost use Rattle.span_core.specs.Lists.{Has};
 ghost use Rattle.marked_automaton.specs.Accepting.{Gathers};
-ghost use Rattle.marked_automaton.specs.Automaton.{HasByte};
 ghost use Rattle.marked_automaton.specs.Reach.{IsFlagged};
-ghost use Rattle.settled_states.specs.Covering.{AreBytesInto, IsCovered, LeadsPlainly};
-ghost use Rattle.settled_states.specs.States.{AreLasting, EndsIdle, EndsPlain, IsIdleEnd, LeadsInto};
+ghost use Rattle.marked_automaton.specs.Trimmed.{count_set};
+ghost use Rattle.settled_states.specs.Covering.{AreBytesInto, HasEachByte, IsUncovered, LeadsInto, LeadsPlainly};
+ghost use Rattle.settled_states.specs.States.{AreLasting, Told};
 
 use marked_automaton::{Automaton, Stop, Way};
 use span_core::{ByteSet, OutOfMemory};
 use std::alloc::Global;
 
-/// For each state whether it has an end without marks, and on each byte a way without marks to an idle state with such an end. The
-/// idle states with such an end are among them, and all of them are lasting. Others may be lasting too.
+/// For each state whether it is lasting. These are all that are: a set of states that is lasting is among them, as the idle states
+/// that have an end without marks are.
+///
+/// It begins with the states that have an end without marks, and goes over all ways, round by round, until no state is left out. In
+/// most automata there are two rounds, and in no automaton are there more than one for each state and one.
 pub fn lasting_states(alloc: Global, automaton: &Automaton) -> Result<Vec<bool>, OutOfMemory>
     ensures len { IfOk result (λ flags. length flags.items ≡ automaton.now.graph.states) }
-    ensures exactly { IfOk result (λ flags. (q : ℕ) → IsFlagged flags.items q ↔
-        (EndsPlain automaton.now.graph q × LeadsInto automaton.now.graph (EndsIdle automaton.now.graph) q)) }
-    ensures idle { IfOk result (λ flags. (q : ℕ) → EndsIdle automaton.now.graph q → IsFlagged flags.items q) }
     ensures lasting { IfOk result (λ flags. AreLasting automaton.now.graph (IsFlagged flags.items)) }
+    ensures largest { IfOk result (λ flags. (y : ℕ → Bool) → AreLasting automaton.now.graph (Told y) → (q : ℕ) → Told y q →
+        IsFlagged flags.items q) }
 {
     automaton.is_marked();
-    let stops = automaton.stops();
     let ways = automaton.ways();
-    let idle = idle_ends(alloc, automaton, stops)?;
-    let sets = bytes_into(alloc, ways, idle.as_slice())?;
-    let flags = covered_ends(alloc, stops, sets.as_slice())?;
-    Ok(flags)
+    let mut flags = plain_ends(alloc, automaton.states(), automaton.stops())?;
+    loop {
+        if !leave_out_uncovered(alloc, ways, flags.as_mut_slice())? {
+            return Ok(flags);
+        }
+    }
 }
 
-/// For each state whether it is idle and one of these is an end of it without marks.
-fn idle_ends(alloc: Global, automaton: &Automaton, stops: &[Stop]) -> Result<Vec<bool>, OutOfMemory>
-    requires { (x : Stop) → Has stops.now x → x.state < automaton.now.graph.states }
-    ensures len { IfOk result (λ flags. length flags.items ≡ automaton.now.graph.states) }
-    ensures exactly { IfOk result (λ flags. Gathers (IsIdleEnd automaton.now.graph) (λ (x : Stop). x.state) stops.now flags.items) }
+/// For each state whether one of these is an end of it without marks.
+fn plain_ends(alloc: Global, states: u32, stops: &[Stop]) -> Result<Vec<bool>, OutOfMemory>
+    requires { (x : Stop) → Has stops.now x → x.state < states }
+    ensures len { IfOk result (λ flags. length flags.items ≡ states) }
+    ensures exactly { IfOk result (λ flags. Gathers (λ (x : Stop). x.marks ≡ 0) (λ (x : Stop). x.state) stops.now flags.items) }
 {
     let mut flags = Vec::new(alloc);
-    flags.resize(automaton.states() as usize, false)?;
+    flags.resize(states as usize, false)?;
     for stop in stops {
-        if is_idle_end(automaton, stop) {
+        if stop.marks.is_none() {
             flags[stop.state as usize] = true;
         }
     }
     Ok(flags)
 }
 
-/// Whether the end has no marks and its state is idle.
-fn is_idle_end(automaton: &Automaton, stop: &Stop) -> bool
-    requires { stop.now.state < automaton.now.graph.states }
-    ensures { IsTrue result ↔ IsIdleEnd automaton.now.graph stop.now }
+/// Leaves out the states from which ways without marks lead to flagged states on some bytes only, and tells whether there were any.
+fn leave_out_uncovered(alloc: Global, ways: &[Way], flags: &mut [bool]) -> Result<bool, OutOfMemory>
+    requires froms { (y : Way) → Has ways.now y → y.from < length flags.old }
+    requires tos { (y : Way) → Has ways.now y → y.to < length flags.old }
+    ensures len { length flags.new ≡ length flags.old }
+    ensures kept { OnOk result ((q : ℕ) → IsFlagged flags.new q ↔ (IsFlagged flags.old q × LeadsInto ways.now (IsFlagged flags.old) q)) }
+    ensures same { IfOk result (λ some. some ≡ false → flags.new ≡ flags.old) }
+    ensures fewer { IfOk result (λ some. some ≡ true → count_set flags.new < count_set flags.old) }
 {
-    stop.marks.is_none() && automaton.is_idle(stop.state)
+    let sets = bytes_into(alloc, ways, flags)?;
+    let some = leave_out(flags, sets.as_slice());
+    Ok(some)
+}
+
+/// Leaves out the states whose set does not have each byte, and tells whether there were any.
+fn leave_out(flags: &mut [bool], sets: &[ByteSet]) -> bool
+    requires { length sets.now ≡ length flags.old }
+    ensures len { length flags.new ≡ length flags.old }
+    ensures kept { (q : ℕ) → IsFlagged flags.new q ↔ (IsFlagged flags.old q × HasEachByte (slice_index_or sets.now q bytes.empty)) }
+    ensures same { result ≡ false → flags.new ≡ flags.old }
+    ensures fewer { result ≡ true → count_set flags.new < count_set flags.old }
+{
+    let mut some = false;
+    for k in 0..flags.len() {
+        if is_uncovered(flags[k], &sets[k]) {
+            flags[k] = false;
+            some = true;
+        }
+    }
+    some
+}
+
+/// Whether the flag is set, and the set does not have each byte.
+fn is_uncovered(flag: bool, set: &ByteSet) -> bool
+    ensures yes { IsTrue result → IsUncovered flag set.now }
+    ensures no { result ≡ false → IsTrue flag → HasEachByte set.now }
+{
+    flag && !has_each_byte(set)
 }
 
 /// For each state the bytes on which ways without marks lead from it to states of `good`.
@@ -88,33 +123,9 @@ fn leads_plainly(way: &Way, good: &[bool]) -> bool
     way.marks.is_none() && good[way.to as usize]
 }
 
-/// For each state whether one of these is an end of it without marks, and its set has each byte.
-fn covered_ends(alloc: Global, stops: &[Stop], sets: &[ByteSet]) -> Result<Vec<bool>, OutOfMemory>
-    requires { (x : Stop) → Has stops.now x → x.state < length sets.now }
-    ensures len { IfOk result (λ flags. length flags.items ≡ length sets.now) }
-    ensures exactly { IfOk result (λ flags. Gathers (IsCovered sets.now) (λ (x : Stop). x.state) stops.now flags.items) }
-{
-    let mut flags = Vec::new(alloc);
-    flags.resize(sets.len(), false)?;
-    for stop in stops {
-        if is_covered(stop, sets) {
-            flags[stop.state as usize] = true;
-        }
-    }
-    Ok(flags)
-}
-
-/// Whether the end has no marks and the set of its state has each byte.
-fn is_covered(stop: &Stop, sets: &[ByteSet]) -> bool
-    requires { stop.now.state < length sets.now }
-    ensures { IsTrue result ↔ IsCovered sets.now stop.now }
-{
-    stop.marks.is_none() && has_each_byte(&sets[stop.state as usize])
-}
-
 /// Whether each byte is in the set.
 fn has_each_byte(set: &ByteSet) -> bool
-    ensures { IsTrue result ↔ ((b : ℕ) → b < 256 → HasByte set.now b) }
+    ensures { IsTrue result ↔ HasEachByte set.now }
 {
     set.negation().is_empty()
 }

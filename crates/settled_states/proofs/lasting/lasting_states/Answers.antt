@@ -1,36 +1,45 @@
-use Rattle.std.proofs.Common.{Bool, List, subst}
-use Rattle.marked_automaton.specs.Accepting.{Gathers}
-use Rattle.marked_automaton.specs.Automaton.{ByteClass}
-use Rattle.marked_automaton.specs.declared.way.Stop.{Stop}
+use Rattle.std.proofs.Common.{◌≡◌, ℕ, ◌↔◌, ◌++◌, List, Bool, drop, length, take, subst, sym, ap, ◌∙◌}
+use Rattle.std.proofs.Math.Seq.{take-append_seam}
+use Rattle.marked_automaton.specs.Reach.{IsFlagged}
 use Rattle.marked_automaton.specs.declared.way.Way.{Way}
-use Rattle.settled_states.specs.Covering.{AreBytesInto, IsCovered}
-use Rattle.settled_states.specs.States.{IsIdleEnd}
-use Rattle.settled_states.proofs.Covers.{ShowsLasting, idle_lasts, lasting_are, lasting_last}
+use Rattle.settled_states.specs.Covering.{LeadsInto}
+use Rattle.settled_states.specs.States.{AreLasting}
+use Rattle.settled_states.proofs.Covers.{BoundsLasting, bounds_next, lasting_same}
 use Rattle.settled_states.proofs.lasting.lasting_states.Goals as goal
-use Rattle.settled_states.proofs.lasting.lasting_states.Goals.{After-drop-idle-2}
+use Rattle.settled_states.proofs.lasting.lasting_states.Goals.{In_ok-leave_out_uncovered}
 
-shows : (c : After-drop-idle-2) → ShowsLasting c.args.automaton.now c.in_ok-flags.flags.items
-shows c =
-    let graph = c.args.automaton.now.graph in
-    let idle = c.in_ok-idle.idle.items in
-    let sets = c.in_ok-sets.sets.items in
-    let flags = c.in_ok-flags.flags.items in
+-- what the round wrote is all of the flags
+written : (c : In_ok-leave_out_uncovered) →
+    c.leave_out_uncovered.new.flags ≡ take c.loop-flags.flags.len (c.leave_out_uncovered.new.flags ++ drop (length c.leave_out_uncovered.new.flags) c.loop-flags.flags.items)
+written c =
+    let new = c.leave_out_uncovered.new.flags in
+    let rest = drop (length new) c.loop-flags.flags.items in
+    let len : length new ≡ c.loop-flags.flags.len = c.in_ok-leave_out_uncovered.ensures.len ∙ (ap length c.as_mut_slice.ensures.value ∙ sym c.loop-flags.flags.ok.0) in
+    sym (take-append_seam new rest) ∙ ap (λ k. take k (new ++ rest)) len
+
+-- and what it left
+left : (c : In_ok-leave_out_uncovered) → (q : ℕ) → IsFlagged c.leave_out_uncovered.new.flags q
+    ↔ (IsFlagged c.loop-flags.flags.items q × LeadsInto c.args.automaton.now.graph.ways (IsFlagged c.loop-flags.flags.items) q)
+left c =
+    let new = c.leave_out_uncovered.new.flags in
+    let old = c.loop-flags.flags.items in
+    subst (λ (ys : List Way). (q : ℕ) → IsFlagged new q ↔ (IsFlagged old q × LeadsInto ys (IsFlagged old) q)) c.ways-ways.ensures
+    (subst (λ (xs : List Bool). (q : ℕ) → IsFlagged new q ↔ (IsFlagged xs q × LeadsInto c.ways-ways.result.now (IsFlagged xs) q)) c.as_mut_slice.ensures.value c.in_ok-leave_out_uncovered.ensures.kept)
+
+pub returns-then-not-branch-clause-lasting : goal.returns-then-not-branch-clause-lasting
+returns-then-not-branch-clause-lasting c =
+    let d = (goal.at.returns-then-not-branch-clause-lasting c).In_ok-leave_out_uncovered in
+    let A = c.args.automaton.now.graph in
+    let new = c.leave_out_uncovered.new.flags in
+    let same : new ≡ c.loop-flags.flags.items = c.in_ok-leave_out_uncovered.ensures.same c.if-not-branch.true ∙ c.as_mut_slice.ensures.value in
+    subst (λ (xs : List Bool). AreLasting A (IsFlagged xs)) (written d) (lasting_same A c.loop-flags.flags.items new c.loop-flags.invariant.bounds (left d) same)
+
+pub loop-flags-preserved : goal.loop-flags-preserved
+loop-flags-preserved c =
+    let d = (goal.at.loop-flags-preserved c).In_ok-leave_out_uncovered in
+    let A = c.args.automaton.now.graph in
+    let new = c.leave_out_uncovered.new.flags in
     record {
-      marked = c.is_marked.ensures;
-      idle = idle;
-      sets = sets;
-      found = subst (λ (xs : List Stop). Gathers (IsIdleEnd graph) (λ (x : Stop). x.state) xs idle) c.stops-stops.ensures c.in_ok-idle.ensures.exactly;
-      into = subst (λ (ys : List Way). AreBytesInto ys idle sets) c.ways-ways.ensures
-          (subst (λ (bs : List Bool). AreBytesInto c.ways-ways.result.now bs sets) c.as_slice.ensures.value c.in_ok-sets.ensures.exactly);
-      covered = subst (λ (xs : List Stop). Gathers (IsCovered sets) (λ (x : Stop). x.state) xs flags) c.stops-stops.ensures
-          (subst (λ (ss : List ByteClass). Gathers (IsCovered ss) (λ (x : Stop). x.state) c.stops-stops.result.now flags) c.as_slice-2.ensures.value c.in_ok-flags.ensures.exactly);
+      len = ap length (sym (written d)) ∙ (c.in_ok-leave_out_uncovered.ensures.len ∙ (ap length c.as_mut_slice.ensures.value ∙ c.loop-flags.invariant.len));
+      bounds = subst (BoundsLasting A) (written d) (bounds_next A c.loop-flags.flags.items new c.loop-flags.invariant.bounds (left d));
     }
-
-pub returns-clause-exactly : goal.returns-clause-exactly
-returns-clause-exactly c = lasting_are c.args.automaton.now c.in_ok-flags.flags.items (shows (goal.at.returns-clause-exactly c).After-drop-idle-2)
-
-pub returns-clause-idle : goal.returns-clause-idle
-returns-clause-idle c = idle_lasts c.args.automaton.now c.in_ok-flags.flags.items (shows (goal.at.returns-clause-idle c).After-drop-idle-2)
-
-pub returns-clause-lasting : goal.returns-clause-lasting
-returns-clause-lasting c = lasting_last c.args.automaton.now c.in_ok-flags.flags.items (shows (goal.at.returns-clause-lasting c).After-drop-idle-2)
