@@ -5,7 +5,6 @@ use Rattle.std.proofs.lemmas.List.{take_all}
 use Rattle.span_core.specs.Lists.{Has}
 use Rattle.span_core.proofs.HasLaws.{Has-get_or}
 use Rattle.span_core.specs.declared.byte_set.ByteSet.{ByteSet}
-use Rattle.marked_automaton.specs.Automaton.{ByteClass}
 use Rattle.marked_automaton.specs.declared.way.Way.{Way}
 use Rattle.settled_states.specs.Covering.{AreBytesInto}
 use Rattle.settled_states.proofs.Covers.{into_kept, into_more, into_none}

@@ -1,11 +1,10 @@
-use Rattle.std.proofs.Common.{◌≡◌, ℕ, ◌∙◌, Some, [], false, length, replicate, subst, sym, ap, arith}
+use Rattle.std.proofs.Common.{◌≡◌, ◌∙◌, Some, [], false, length, replicate, subst, sym, ap, arith}
 use Rattle.std.proofs.Math.ListN.{length-replicate}
 use Rattle.std.specs.Prelude.{slice_get}
-use Rattle.span_core.proofs.HasLaws.{Has-map_cases}
 use Rattle.marked_automaton.specs.Reach.{AreTargets, Grows}
-use Rattle.marked_automaton.specs.Trimmed.{back_edge_of, back_edges_of}
+use Rattle.marked_automaton.specs.Trimmed.{back_edges_of}
 use Rattle.settled_states.specs.States.{HasMarkedWay}
-use Rattle.settled_states.proofs.Marking.{begins, leading_is, source_below}
+use Rattle.settled_states.proofs.Marking.{leading_is, source_below}
 use Rattle.settled_states.proofs.unspent.leading_to_marks.Goals as goal
 use Rattle.settled_states.proofs.unspent.leading_to_marks.Goals.{After-find_by_stops}
 
