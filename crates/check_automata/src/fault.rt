@@ -1,6 +1,7 @@
 //! Why a check fails.
 
 use crate::pairs::Operation;
+use crate::states::Settled;
 use marked_automaton::SizeFault;
 use query_parser::QueryFault;
 use segment_filter::FilterFault;
@@ -42,6 +43,8 @@ pub(crate) enum Fault {
     Touched {
         parts: Vec<(u32, u32)>,
     },
+    /// So many states are spent and lasting, and not as many as in the table.
+    Settled(Settled),
     /// There is not enough memory.
     OutOfMemory,
 }

@@ -2,8 +2,8 @@
 //!
 //! For each query of a table, and each short document over the table's bytes, every row over the query's variables is
 //! tried: its word must be accepted by the query's automaton exactly where the row is among the answers that the plain
-//! evaluator gives. Then it checks what is made of pairs of automata and the positions that atoms touch, and prints the
-//! sizes with which some large queries are compiled or refused.
+//! evaluator gives. Then it checks what is made of pairs of automata, the positions that atoms touch, and how many states
+//! are spent and lasting, and prints the sizes with which some large queries are compiled or refused.
 //!
 //! That all this is so is proved of the crates. What a run shows is what no contract says: that the calls succeed on
 //! such inputs, and are refused at the limits.
@@ -20,6 +20,7 @@ mod filter;
 mod pairs;
 mod rows;
 mod sizes;
+mod states;
 
 use answers::{Tally, check_text};
 use check_cases::{Ending, GROUPS, LARGE, PAIRS};
@@ -27,6 +28,7 @@ use fault::Fault;
 use filter::{TOUCHING, check_touching};
 use pairs::check_pair;
 use sizes::{counted_of_text, size_of_text};
+use states::{SETTLING, check_settling};
 use std::io;
 use std::process::ExitCode;
 
@@ -51,6 +53,9 @@ fn check_all(rt: &HostRuntime) -> io::Result<Ending> {
     }
     if ending.agrees() {
         ending = check_touched(rt)?;
+    }
+    if ending.agrees() {
+        ending = check_settled(rt)?;
     }
     if ending.agrees() {
         ending = print_sizes(rt)?;
@@ -102,6 +107,17 @@ fn check_touched(rt: &HostRuntime) -> io::Result<Ending> {
         }
     }
     println!(rt; "touched {}", TOUCHING.len())?;
+    Ok(Ending::Agrees)
+}
+
+/// Checks how many states are spent and lasting.
+fn check_settled(rt: &HostRuntime) -> io::Result<Ending> {
+    for one in &SETTLING {
+        if let Err(fault) = check_settling(rt.alloc(), one) {
+            return ended_by(rt, one.text, &fault);
+        }
+    }
+    println!(rt; "settled {}", SETTLING.len())?;
     Ok(Ending::Agrees)
 }
 

@@ -8,4 +8,3 @@ pub mod Rebasing
 pub mod Shifting
 pub mod Steps
 pub mod Told
-pub mod IdleEnds

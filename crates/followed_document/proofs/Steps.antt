@@ -13,7 +13,8 @@ use Rattle.one_pass.specs.Layers.{no_source, source_at}
 use Rattle.one_pass.specs.Passes.{HasRead, Progress, Reaches, pass}
 use Rattle.one_pass.specs.Places.{Leads, ReadingPlace, bytes_at}
 use Rattle.followed_document.specs.Flags.{AreKept, HasFlagged, flag_at}
-use Rattle.followed_document.specs.Laws.{IsGivenNext, IsSettledSet, Told}
+use Rattle.settled_states.specs.States.{Told}
+use Rattle.followed_document.specs.Laws.{IsGivenNext, IsSettledSet}
 use Rattle.followed_document.specs.Settling.{LeadsPast, Rule, Settles, joined}
 use Rattle.followed_document.specs.Steps.{AreTold, IsLayerPast, StepLaw}
 use Rattle.followed_document.proofs.Following.{more_past, past_more}

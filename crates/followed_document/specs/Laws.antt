@@ -1,16 +1,15 @@
 -- What is given, piece by piece.
-use Rattle.std.specs.Prelude.{◌≡◌, ℕ, ◌+◌, ◌<◌, ◌↔◌, List, [], ◌++◌, length}
+use Rattle.std.specs.Prelude.{◌≡◌, ℕ, ◌+◌, ◌↔◌, List, [], ◌++◌, length}
 use Rattle.marked_automaton.specs.Automaton.{Automaton, Marked}
 use Rattle.automaton_reading.specs.Reading.{set_of}
 use Rattle.node_arena.specs.Words.{Word}
 use Rattle.enumerator.specs.Enumeration.{SpanRow}
 use Rattle.span_core.specs.Blocks.{IsBlockList, IsRowOfBlocks}
-use Rattle.marked_automaton.specs.Automaton.{Accepts, HasByte}
-use Rattle.marked_automaton.specs.declared.way.Stop.{Stop}
-use Rattle.marked_automaton.specs.declared.way.Way.{Way}
+use Rattle.marked_automaton.specs.Automaton.{Accepts}
+use Rattle.settled_states.specs.States.{AreLasting, AreSpent, Told}
 use Rattle.span_core.specs.Lists.{Has}
 use Rattle.one_pass.specs.Places.{Leads, bytes_at, word_through}
-use Rattle.std.specs.Prelude.{Bool, IsTrue, Option, None}
+use Rattle.std.specs.Prelude.{Bool, Option, None}
 use Rattle.std.specs.List.{All}
 use Rattle.span_core.specs.declared.span.Span.{Span}
 use Rattle.growing_document.specs.Grown.{AreBytes}
@@ -71,24 +70,9 @@ ShiftLaw =
     (A : Automaton) (k i : ℕ) (d from : List ℕ) (w : Word) (to : List ℕ) →
     Leads A (bytes_at (i + k) d) from w to ↔ ((u : Word) × Leads A (bytes_at i d) from u to × (shift k u ≡ w))
 
--- ---- states from which nothing more comes, and states that stay
-
--- from these states no marks are taken: their ways and ends have none, and their ways lead to such
-pub record AreSpent (A : Automaton) (X : ℕ → Type 0) : Type 0 where
-  pub ways : (y : Way) → Has A.ways y → X y.from → (y.marks ≡ 0) × X y.to
-  pub ends : (x : Stop) → Has A.stops x → X x.state → x.marks ≡ 0
-
--- these states have an end without marks, and on each byte a way without marks to such a state
-pub record AreLasting (A : Automaton) (Y : ℕ → Type 0) : Type 0 where
-  pub ways : (q b : ℕ) → Y q → b < 256 → (y : Way) × Has A.ways y × (y.from ≡ q) × HasByte y.bytes b × (y.marks ≡ 0) × Y y.to
-  pub ends : (q : ℕ) → Y q → (x : Stop) × Has A.stops x × (x.state ≡ q) × (x.marks ≡ 0)
-
 -- all members are spent and one is lasting: its words are rows for good, and go on to no other
 abbrev pub IsSettledSet : (ℕ → Type 0) → (ℕ → Type 0) → Rule
 IsSettledSet X Y set = ((q : ℕ) → Has set q → X q) × ((q : ℕ) × Has set q × Y q)
-
-abbrev pub Told : (ℕ → Bool) → ℕ → Type 0
-Told x q = IsTrue (x q)
 
 -- so every word that is accepted of the whole is given once, and no other
 abbrev pub SettledLaw : Type 0

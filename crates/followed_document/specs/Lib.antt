@@ -4,4 +4,3 @@ pub mod Laws
 pub mod Flags
 pub mod Goes
 pub mod Steps
-pub mod States

@@ -10,7 +10,8 @@ use Rattle.one_pass.specs.Layers.{source_at}
 use Rattle.one_pass.specs.Passes.{HasRead, IsReadyAt, Progress, Reaches, pass}
 use Rattle.one_pass.specs.Places.{bytes_at}
 use Rattle.followed_document.specs.Flags.{AreKept, HasFlagged, flag_at}
-use Rattle.followed_document.specs.Laws.{AreLasting, IsGivenNext, IsSettledSet, Told}
+use Rattle.settled_states.specs.States.{AreLasting, Told}
+use Rattle.followed_document.specs.Laws.{IsGivenNext, IsSettledSet}
 use Rattle.followed_document.specs.Settling.{LeadsPast, Rule, joined}
 
 -- the flags tell the sources whose sets are given

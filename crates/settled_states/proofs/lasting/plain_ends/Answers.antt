@@ -6,15 +6,8 @@ use Rattle.span_core.proofs.HasLaws.{Has-get_or}
 use Rattle.marked_automaton.specs.declared.way.Stop.{Stop}
 use Rattle.marked_automaton.specs.Accepting.{Gathers}
 use Rattle.marked_automaton.proofs.Gathering.{gathers_kept, gathers_set}
-use Rattle.followed_document.specs.States.{IsIdleEnd}
-use Rattle.followed_document.proofs.states.idle_ends.Goals.{then-is_idle_end, else-is_idle_end}
-use Rattle.followed_document.proofs.states.idle_ends.Goals as goal
-
-pub is_idle_end-requires : goal.is_idle_end-requires
-is_idle_end-requires c =
-    let stops = c.args.stops.now in
-    let x = c.stop-item.result in
-    c.requires x (subst (Has stops) (sym c.stop-item.is) (Has-get_or stops c.loop-stop.stop-index x c.loop-stop-test.true))
+use Rattle.settled_states.proofs.lasting.plain_ends.Goals.{then-is_none, else-is_none}
+use Rattle.settled_states.proofs.lasting.plain_ends.Goals as goal
 
 pub index_mut-requires : goal.index_mut-requires
 index_mut-requires c =
@@ -31,23 +24,23 @@ loop-stop-preserved c =
     let flags = c.loop-stop.flags.items in
     let inv = c.loop-stop.invariant in
     let has = subst (Has stops) (sym c.stop-item.is) (Has-get_or stops i x c.loop-stop-test.true) in
-    let P : Stop → Type 0 = IsIdleEnd c.args.automaton.now.graph in
+    let P : Stop → Type 0 = λ (z : Stop). z.marks ≡ 0 in
     let place : Stop → ℕ = λ (y : Stop). y.state in
-    elim c.if-is_idle_end.branch [
-      | then-is_idle_end w ↦
-          let items : c.if-is_idle_end.flags.items ≡ set flags x.state true = ap (λ (v : Vec Bool Global). v.items) w.flags-is in
+    elim c.if-is_none.branch [
+      | then-is_none w ↦
+          let items : c.if-is_none.flags.items ≡ set flags x.state true = ap (λ (v : Vec Bool Global). v.items) w.flags-is in
           record {
             len = ap length items ∙ (length-set flags x.state true ∙ inv.len);
             gathers = subst (Gathers P place (take (i + 1) stops)) (sym items)
-                (gathers_set P place stops flags i x c.loop-stop-test.true (sym c.stop-item.is) inv.gathers (c.is_idle_end.ensures.0 w.if-is_idle_end.true)
+                (gathers_set P place stops flags i x c.loop-stop-test.true (sym c.stop-item.is) inv.gathers (c.is_none.ensures.0 w.if-is_none.true)
                 (omega (arith, c.requires x has, inv.len)));
           }
-      | else-is_idle_end w ↦
-          let items : c.if-is_idle_end.flags.items ≡ flags = ap (λ (v : Vec Bool Global). v.items) w.flags-is in
+      | else-is_none w ↦
+          let items : c.if-is_none.flags.items ≡ flags = ap (λ (v : Vec Bool Global). v.items) w.flags-is in
           record {
             len = ap length items ∙ inv.len;
             gathers = subst (Gathers P place (take (i + 1) stops)) (sym items)
                 (gathers_kept P place stops flags i x c.loop-stop-test.true (sym c.stop-item.is) inv.gathers
-                (λ t. false≢true (sym w.if-is_idle_end.false ∙ c.is_idle_end.ensures.1 t)));
+                (λ t. false≢true (sym w.if-is_none.false ∙ c.is_none.ensures.1 t)));
           }
     ]

@@ -1,0 +1,4 @@
+-- what public contracts rest on
+pub mod States
+-- what the functions inside promise each other
+pub mod Covering
