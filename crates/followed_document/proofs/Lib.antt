@@ -3,9 +3,6 @@ pub mod Choices
 pub mod Following
 pub mod Going
 pub mod Lasting
-pub mod Settlings
-pub mod Rebasing
 pub mod Shifting
 pub mod Steps
-pub mod Told
 pub mod IdleEnds

@@ -10,11 +10,12 @@ use Rattle.marked_automaton.specs.declared.way.Stop.{Stop}
 use Rattle.marked_automaton.specs.declared.way.Way.{Way}
 use Rattle.span_core.specs.Lists.{Has}
 use Rattle.one_pass.specs.Places.{Leads, bytes_at, word_through}
+use Rattle.one_pass.specs.Settling.{IsSettledSet, Rule}
 use Rattle.std.specs.Prelude.{Bool, IsTrue, Option, None}
 use Rattle.std.specs.List.{All}
 use Rattle.span_core.specs.declared.span.Span.{Span}
 use Rattle.growing_document.specs.Grown.{AreBytes}
-use Rattle.followed_document.specs.Settling.{AllBytes, IsGivenIn, LeadsPast, Rule, Settles, joined, shift, whole}
+use Rattle.followed_document.specs.Settling.{AllBytes, IsGivenIn, LeadsPast, Settles, joined, shift, whole}
 
 -- what is left in the layer behind the pieces leads on to a set that is given: the words that are given with one piece more
 abbrev pub IsGivenNext : Automaton → Rule → List (List ℕ) → List ℕ → Word → Type 0
@@ -83,14 +84,10 @@ pub record AreLasting (A : Automaton) (Y : ℕ → Type 0) : Type 0 where
   pub ways : (q b : ℕ) → Y q → b < 256 → (y : Way) × Has A.ways y × (y.from ≡ q) × HasByte y.bytes b × (y.marks ≡ 0) × Y y.to
   pub ends : (q : ℕ) → Y q → (x : Stop) × Has A.stops x × (x.state ≡ q) × (x.marks ≡ 0)
 
--- all members are spent and one is lasting: its words are rows for good, and go on to no other
-abbrev pub IsSettledSet : (ℕ → Type 0) → (ℕ → Type 0) → Rule
-IsSettledSet X Y set = ((q : ℕ) → Has set q → X q) × ((q : ℕ) × Has set q × Y q)
-
 abbrev pub Told : (ℕ → Bool) → ℕ → Type 0
 Told x q = IsTrue (x q)
 
--- so every word that is accepted of the whole is given once, and no other
+-- the words of a settled set are rows for good, and go on to no other: every word that is accepted of the whole is given once, and no other
 abbrev pub SettledLaw : Type 0
 SettledLaw =
     (A : Automaton) (x y : ℕ → Bool) → AreSpent A (Told x) → AreLasting A (Told y) →

@@ -1,7 +1,6 @@
 -- what public contracts rest on
 pub mod Settling
 pub mod Laws
-pub mod Flags
 pub mod Goes
 pub mod Steps
 pub mod States

@@ -4,11 +4,7 @@
 //! given once, and nothing is kept of it.
 #![tactic(auto)]
 
-pub use settling::{keep_sources, list_sources, settle};
 pub use states::lasting_states;
-pub use telling::settled_sources;
 
 pub mod laws;
-mod settling;
 mod states;
-mod telling;

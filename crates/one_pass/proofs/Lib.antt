@@ -34,3 +34,6 @@ pub mod Weighing
 pub mod Whole
 pub mod OpenLaws
 pub mod NumberedLaws
+pub mod Rebasing
+pub mod Settlings
+pub mod Told

@@ -1,5 +1,5 @@
-use Rattle.followed_document.specs.Flags.{IsListing}
-use Rattle.followed_document.proofs.settling.list_sources.Given as goal
+use Rattle.one_pass.specs.Flags.{IsListing}
+use Rattle.one_pass.proofs.settling.list_sources.Given as goal
 
 -- the first k sources have been given, or not
 abbrev pub invariant-loop-k : goal.invariant-loop-k

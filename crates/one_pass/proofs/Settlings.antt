@@ -12,7 +12,7 @@ use Rattle.one_pass.specs.Layers.{source_at}
 use Rattle.one_pass.proofs.GraphLaws.{only_more, only_none, source_is, turned_more, turned_none, whole_count, whole_set, whole_sets}
 use Rattle.span_core.proofs.HasLaws.{Has-get_or, Has-map}
 use Rattle.one_pass.specs.Layers.{no_source}
-use Rattle.followed_document.specs.Flags.{AreKept, HasFlagged, IsKeeping, IsListing, flag_at, given_ends, kept_edges}
+use Rattle.one_pass.specs.Flags.{AreKept, HasFlagged, IsKeeping, IsListing, flag_at, given_ends, kept_edges}
 
 no_word : (g : Graph) → g.next ≡ [] → (s : ℕ) (w : Word) → HasWord (targets g) s w → ⊥
 no_word g none s w h = by g.next none h.0 h.1

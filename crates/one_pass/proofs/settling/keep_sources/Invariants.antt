@@ -1,5 +1,5 @@
-use Rattle.followed_document.specs.Flags.{IsKeeping}
-use Rattle.followed_document.proofs.settling.keep_sources.Given as goal
+use Rattle.one_pass.specs.Flags.{IsKeeping}
+use Rattle.one_pass.proofs.settling.keep_sources.Given as goal
 
 -- the first k sources have been kept or given up
 abbrev pub invariant-loop-k : goal.invariant-loop-k

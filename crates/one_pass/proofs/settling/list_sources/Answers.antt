@@ -1,7 +1,7 @@
 use Rattle.std.proofs.Common.{refl, arith}
 use Rattle.node_arena.specs.Rows.{rows}
-use Rattle.followed_document.proofs.Settlings.{listed_all, listing_more, listing_none}
-use Rattle.followed_document.proofs.settling.list_sources.Goals as goal
+use Rattle.one_pass.proofs.Settlings.{listed_all, listing_more, listing_none}
+use Rattle.one_pass.proofs.settling.list_sources.Goals as goal
 
 pub loop-k-init : goal.loop-k-init
 loop-k-init g c = listing_none c.args.graph c.args.settled.now c.args.at c.requires.fresh c.requires.past

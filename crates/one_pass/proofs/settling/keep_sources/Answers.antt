@@ -1,6 +1,6 @@
 use Rattle.std.proofs.Common.{refl, arith}
-use Rattle.followed_document.proofs.Settlings.{kept_all, keeping_more, keeping_none}
-use Rattle.followed_document.proofs.settling.keep_sources.Goals as goal
+use Rattle.one_pass.proofs.Settlings.{kept_all, keeping_more, keeping_none}
+use Rattle.one_pass.proofs.settling.keep_sources.Goals as goal
 
 pub loop-k-init : goal.loop-k-init
 loop-k-init g c = keeping_none c.args.graph.now c.args.settled.now c.args.at c.requires.fresh c.requires.past

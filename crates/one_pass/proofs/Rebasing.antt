@@ -5,8 +5,9 @@ use Rattle.span_core.specs.Lists.{Has}
 use Rattle.span_core.proofs.HasLaws.{Has-append_cases, Has-map_cases}
 use Rattle.node_arena.specs.Cells.{NamedLink}
 use Rattle.node_arena.specs.Words.{Word, block_of, words, words_also, words_from}
-use Rattle.output_graph.specs.Graph.{HasWord, Source, source_of, sources}
-use Rattle.followed_document.specs.Steps.{RebaseLaw}
+use Rattle.output_graph.specs.Graph.{Graph, HasWord, Source, source_of, sources}
+use Rattle.set_table.specs.Tabled.{Tabled}
+use Rattle.one_pass.specs.Passes.{IsReadyAt}
 
 lone_from : (block : Word) (from : Option ℕ) (w : Word) → Has (words_from (words []) block from) w → w ≡ []
 lone_from block None w (inl e) = sym e
@@ -32,8 +33,9 @@ empty_words [] c w few h = absurd h
 empty_words (l ∷ []) c w few h = lone l c w h
 empty_words (l ∷ m ∷ rest) c w few h = absurd (omega (arith, few))
 
-pub rebase_law : RebaseLaw
-rebase_law t g at ready few = record {
+-- so a reading that may go on at a position may go on at 0
+pub ready_at_start : (t : Tabled) (g : Graph) (at : ℕ) → IsReadyAt t g at → length g.cells ≤ 1 → IsReadyAt t g 0
+ready_at_start t g at ready few = record {
   sound = ready.sound;
   given = ready.given;
   apart = ready.apart;
