@@ -96,7 +96,7 @@ fn settle_layer<L: Ledger>(
 /// Whether there are sources and none of them is told.
 fn are_all_kept(settled: &[bool]) -> bool
     ensures some { IsTrue result → 0 < length settled.now }
-    ensures kept { IsTrue result → (k : ℕ) → flag_at settled.now k ≡ false }
+    ensures kept { IsTrue result → (k : ℕ) → k < length settled.now → flag_at settled.now k ≡ false }
 {
     for flag in settled {
         if *flag {
