@@ -44,7 +44,8 @@ impl Pass {
     {
         let settled = settled_sources(alloc, table, &self.graph, unspent, lasting)?;
         let at = self.at;
-        settle_layer(alloc, &mut self.graph, at, &settled, steps)
+        let lists = settle_layer(alloc, &mut self.graph, at, &settled, steps)?;
+        Ok(lists)
     }
 
     /// Stands at position 0 again, where one cell is live at most.
