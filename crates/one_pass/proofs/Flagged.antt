@@ -163,7 +163,6 @@ module _ (G : Rule) (t : Tabled) (g h : Graph) (n m : ℕ) (flags : List Bool) (
           by false e = absurd ((told at.0 at.1).1 e (subst G (sym name) given))
           by true e = (r.0.set, (at.0, at.1, e, ap (λ (y : Source). y.set) at.2, subst (λ (y : Source). Has y.words w) (sym at.2) r.3))
 
-
 -- no source is told, and the graph is as it was
 pub kept_whole : (g : Graph) (flags : List Bool) → ((k : ℕ) → k < length (sources g) → flag_at flags k ≡ false) → (g.stepped ≡ 0) × (g.next ≡ []) →
     AreDistinct (map (λ (x : Source). x.set) (sources g)) → AreKept g flags g
@@ -171,7 +170,7 @@ kept_whole g flags none fresh apart = record {
   fresh = fresh;
   words = λ s w. (
     λ h. (let at = there_at (sources g) h.0 h.1 in
-      (at.0, at.1, none at.0 at.1, ap (λ (y : Source). y.set) at.2 ∙ h.2, subst (λ (y : Source). Has y.words w) (sym at.2) h.3)),
+        (at.0, at.1, none at.0 at.1, ap (λ (y : Source). y.set) at.2 ∙ h.2, subst (λ (y : Source). Has y.words w) (sym at.2) h.3)),
     λ f. (source_at (sources g) f.0, Has-get_or (sources g) f.0 no_source f.1, f.3, f.4),
   );
   sets = λ s h. h;
@@ -207,14 +206,14 @@ pub kept_ready : {t : Tabled} {g h : Graph} {at : ℕ} {flags : List Bool} → I
 kept_ready {t} {g} {h} ready kept = record {
   sound = ready.sound;
   given = λ x there. (
-    let named = subst (λ ns. Has ns x.set) (whole_sets h kept.fresh.0) (Has-map (λ (y : Source). y.set) (sources h) x there) in
-    let old = Has-map_cases (λ (y : Source). y.set) (sources g) x.set (subst (λ ns. Has ns x.set) (sym (whole_sets g ready.fresh.0)) (kept.sets x.set named)) in
-    subst (λ n. n < length t.sets) old.2 (ready.given old.0 old.1));
+      let named = subst (λ ns. Has ns x.set) (whole_sets h kept.fresh.0) (Has-map (λ (y : Source). y.set) (sources h) x there) in
+      let old = Has-map_cases (λ (y : Source). y.set) (sources g) x.set (subst (λ ns. Has ns x.set) (sym (whole_sets g ready.fresh.0)) (kept.sets x.set named)) in
+      subst (λ n. n < length t.sets) old.2 (ready.given old.0 old.1));
   apart = kept.apart;
   fresh = kept.fresh;
   past = λ s w b has in_word. (
-    let f = (kept.words s w).0 has in
-    ready.past s w b (source_at (sources g) f.0, Has-get_or (sources g) f.0 no_source f.1, f.3, f.4) in_word);
+      let f = (kept.words s w).0 has in
+      ready.past s w b (source_at (sources g) f.0, Has-get_or (sources g) f.0 no_source f.1, f.3, f.4) in_word);
 }
 
 -- it was settled

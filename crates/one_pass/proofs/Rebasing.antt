@@ -58,7 +58,7 @@ ready_at_start t g at ready few = record {
 
 -- ---- the reading
 
-module _ {t : Tabled} {p q : Pass} (g : GoesOn t p) (graph : q.graph ≡ p.graph) where
+module _ {t : Tabled} (p q : Pass) (g : GoesOn t p) (graph : q.graph ≡ p.graph) where
   ready_again : length p.graph.cells ≤ 1 → q.at ≡ 0 → IsReadyAt t q.graph q.at
   ready_again few at =
       subst (λ (h : Graph). IsReadyAt t h q.at) (sym graph) (subst (IsReadyAt t p.graph) (sym at) (ready_at_start t p.graph p.at g.ready few))

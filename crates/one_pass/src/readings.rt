@@ -7,8 +7,8 @@ ghost use Rattle.set_table.specs.Tabled.{IsRefusal, fresh};
 ghost use Rattle.one_pass.specs.Known.{Knows};
 ghost use Rattle.one_pass.specs.Passes.{IsReadyAt, pass};
 ghost use Rattle.one_pass.specs.Places.{bytes_at, gap_at};
-ghost use Rattle.one_pass.specs.Settling.{HasRebased, HasSettled, IsSettledBy};
 ghost use Rattle.one_pass.specs.Readings.{AreEnded, HasBegun, HasEndedCopy, HasListed, HasReadOn, IsEndFault, IsEndedThere, IsLaidOf, IsGivenUpAt, IsGivenUpAtEnd, come_to, resumed};
+ghost use Rattle.one_pass.specs.Settling.{HasRebased, HasSettled, IsSettledBy};
 
 use crate::known::Known;
 use crate::pass::{Pass, give_up, give_up_table};

@@ -11,9 +11,8 @@ ghost use Rattle.output_graph.specs.Rows.{rows};
 ghost use Rattle.output_graph.specs.Sound.{edges_of_ends};
 ghost use Rattle.one_pass.specs.Flags.{AreKept, IsGivenBy, flag_at, given_ends, kept_edges, told_in};
 ghost use Rattle.one_pass.specs.Going.{GoesOn};
-ghost use Rattle.one_pass.specs.Passes.{IsReadyAt};
 ghost use Rattle.one_pass.specs.Readings.{so_far};
-ghost use Rattle.one_pass.specs.Settling.{HasRebased, HasSettled, IsSettledBy};
+ghost use Rattle.one_pass.specs.Settling.{HasSettled, IsSettledBy};
 
 use crate::pass::Pass;
 use crate::settled::settled_sources;

@@ -13,7 +13,7 @@ pub loop-k-preserved : goal.loop-k-preserved
 loop-k-preserved g c =
     let e = c.in_ok-keep_source.ensures in (
       keeping_more c.args.graph.now c.args.settled.now c.args.at c.requires.fresh c.requires.past c.loop-k.k c.loop-k.graph c.keep_source.new.graph _ (omega arith) refl
-      _ _ c.set_at-set.result c.is_graph.ensures.sources.distinct c.loop-k.invariant.0 c.set_at-set.ensures e.stepped e.cost,
+          _ _ c.set_at-set.result c.is_graph.ensures.sources.distinct c.loop-k.invariant.0 c.set_at-set.ensures e.stepped e.cost,
       keeps_more c.args.graph.now c.args.settled.now c.loop-k.k c.set_at-set.result c.loop-k.graph c.keep_source.new.graph _ _ _ _ refl c.loop-k.invariant.1 e.cost,
     )
 

@@ -14,7 +14,7 @@ pub loop-k-preserved : goal.loop-k-preserved
 loop-k-preserved g c =
     let e = c.in_ok-end_source.ensures in (
       listing_more c.args.graph c.args.settled.now c.args.at c.requires.fresh c.requires.past c.loop-k.k c.loop-k.graph c.end_source.new.graph _ (omega arith) refl
-      _ _ c.loop-k.invariant.0 e.stepped e.cost,
+          _ _ c.loop-k.invariant.0 e.stepped e.cost,
       lists_more c.args.graph c.args.settled.now c.loop-k.k c.loop-k.graph c.end_source.new.graph _ _ _ _ refl c.loop-k.invariant.1 e.cost,
     )
 
