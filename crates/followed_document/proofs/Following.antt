@@ -9,7 +9,8 @@ use Rattle.node_arena.specs.Words.{Word}
 use Rattle.one_pass.specs.Places.{Leads, ReadingPlace, bytes_at, end_at, places}
 use Rattle.one_pass.proofs.ReadWords.{leads_then, read_words, then_leads}
 use Rattle.growing_document.proofs.WordsRead.{document_places}
-use Rattle.followed_document.specs.Settling.{AllBytes, IsFull, IsGivenIn, LeadsPast, Rule, Settles, joined, no_more, whole}
+use Rattle.one_pass.specs.Settling.{Rule}
+use Rattle.followed_document.specs.Settling.{AllBytes, IsFull, IsGivenIn, LeadsPast, Settles, joined, no_more, whole}
 use Rattle.followed_document.specs.Laws.{AcceptsFullRows, FollowLaw, FollowedLaw, IsAcceptedAt, IsFullWord, IsGivenLast, IsGivenNext, IsSettledBehind, WasGiven}
 use Rattle.followed_document.proofs.Choices.{AllBelow, AllFrom, below_there, bytes_then, from_there, same_cut, same_to, whole_from}
 use Rattle.followed_document.proofs.FullWords.{full_words_end}

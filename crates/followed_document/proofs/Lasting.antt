@@ -16,9 +16,10 @@ use Rattle.node_arena.specs.Words.{Word}
 use Rattle.output_graph.specs.Forward.{mark_block}
 use Rattle.one_pass.specs.Places.{Leads, ReadingPlace, bytes_at, end_at}
 use Rattle.one_pass.proofs.ReadWords.{leads_then, then_leads}
+use Rattle.one_pass.specs.Settling.{IsSettledSet}
 use Rattle.followed_document.specs.Settling.{AllBytes, IsGivenIn, Settles, joined, no_more, whole}
 use Rattle.settled_states.specs.States.{AreLasting, AreSpent, Told}
-use Rattle.followed_document.specs.Laws.{IsSettledSet, SettledLaw}
+use Rattle.followed_document.specs.Laws.{SettledLaw}
 use Rattle.followed_document.proofs.Choices.{bytes_then}
 use Rattle.followed_document.proofs.Following.{bytes_both, bytes_right, follow_law}
 

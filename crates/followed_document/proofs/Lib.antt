@@ -3,8 +3,5 @@ pub mod Choices
 pub mod Following
 pub mod Going
 pub mod Lasting
-pub mod Settlings
-pub mod Rebasing
 pub mod Shifting
 pub mod Steps
-pub mod Told

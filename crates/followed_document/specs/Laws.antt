@@ -9,11 +9,12 @@ use Rattle.marked_automaton.specs.Automaton.{Accepts}
 use Rattle.settled_states.specs.States.{AreLasting, AreSpent, Told}
 use Rattle.span_core.specs.Lists.{Has}
 use Rattle.one_pass.specs.Places.{Leads, bytes_at, word_through}
+use Rattle.one_pass.specs.Settling.{IsSettledSet, Rule}
 use Rattle.std.specs.Prelude.{Bool, Option, None}
 use Rattle.std.specs.List.{All}
 use Rattle.span_core.specs.declared.span.Span.{Span}
 use Rattle.growing_document.specs.Grown.{AreBytes}
-use Rattle.followed_document.specs.Settling.{AllBytes, IsGivenIn, LeadsPast, Rule, Settles, joined, shift, whole}
+use Rattle.followed_document.specs.Settling.{AllBytes, IsGivenIn, LeadsPast, Settles, joined, shift, whole}
 
 -- what is left in the layer behind the pieces leads on to a set that is given: the words that are given with one piece more
 abbrev pub IsGivenNext : Automaton → Rule → List (List ℕ) → List ℕ → Word → Type 0
@@ -70,11 +71,7 @@ ShiftLaw =
     (A : Automaton) (k i : ℕ) (d from : List ℕ) (w : Word) (to : List ℕ) →
     Leads A (bytes_at (i + k) d) from w to ↔ ((u : Word) × Leads A (bytes_at i d) from u to × (shift k u ≡ w))
 
--- all members are spent and one is lasting: its words are rows for good, and go on to no other
-abbrev pub IsSettledSet : (ℕ → Type 0) → (ℕ → Type 0) → Rule
-IsSettledSet X Y set = ((q : ℕ) → Has set q → X q) × ((q : ℕ) × Has set q × Y q)
-
--- so every word that is accepted of the whole is given once, and no other
+-- the words of a settled set are rows for good, and go on to no other: every word that is accepted of the whole is given once, and no other
 abbrev pub SettledLaw : Type 0
 SettledLaw =
     (A : Automaton) (x y : ℕ → Bool) → AreSpent A (Told x) → AreLasting A (Told y) →

@@ -1,6 +1,5 @@
 -- what public contracts rest on
 pub mod Settling
 pub mod Laws
-pub mod Flags
 pub mod Goes
 pub mod Steps

@@ -5,6 +5,7 @@ use Rattle.marked_automaton.specs.Automaton.{Automaton}
 use Rattle.automaton_reading.specs.Reading.{Reach, edges, ended}
 use Rattle.node_arena.specs.Words.{Word}
 use Rattle.one_pass.specs.Places.{Leads, ReadingPlace, bytes_at, end_at}
+use Rattle.one_pass.specs.Settling.{Rule}
 
 abbrev pub no_more : Reach
 no_more = record { marks = 0; to = [] }
@@ -17,10 +18,6 @@ Settles A set = Has (edges A set ended) no_more
 abbrev pub joined : List (List ℕ) → List ℕ
 joined [] = []
 joined (p ∷ ps) = p ++ joined ps
-
--- which sets are given and given up where a piece ends
-abbrev pub Rule : Type 1
-Rule = List ℕ → Type 0
 
 -- a choice leads over the pieces, which stand at i, and behind none of them to a set that is given
 abbrev pub LeadsPast : Automaton → Rule → ℕ → List (List ℕ) → List ℕ → Word → List ℕ → Type 0

@@ -4,9 +4,4 @@
 //! given once, and nothing is kept of it.
 #![tactic(auto)]
 
-pub use settling::{keep_sources, list_sources, settle};
-pub use telling::settled_sources;
-
 pub mod laws;
-mod settling;
-mod telling;

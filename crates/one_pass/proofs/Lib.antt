@@ -34,3 +34,7 @@ pub mod Weighing
 pub mod Whole
 pub mod OpenLaws
 pub mod NumberedLaws
+pub mod Flagged
+pub mod Rebasing
+pub mod Settlings
+pub mod Told

@@ -11,7 +11,7 @@ pub use known_table::{KeptTable, KnownTable, Listed};
 pub use listing::read_rows;
 pub use pieces::{advance, finish};
 pub use reading::read;
-pub use readings::{Laid, Reading};
+pub use readings::{Laid, Reading, Settled};
 
 mod bytes;
 mod classes;
@@ -30,4 +30,6 @@ mod reading;
 mod readings;
 mod regions;
 mod search;
+mod settled;
+mod settling;
 mod waiting;

@@ -1,12 +1,14 @@
 //! A reading of a document as one value: a table, and the pass that goes on with it.
 //!
 //! A caller keeps it between the pieces that come; laid down, it stands beside its automaton.
-ghost use Rattle.std.specs.Prelude.{◌≡◌, ℕ, ◌+◌, ◌^◌, ◌<◌, ◌≤◌, length, IfErr, IfOk, OnErr, OnOk};
+ghost use Rattle.std.specs.Prelude.{◌≡◌, ℕ, ◌+◌, ◌*◌, ◌^◌, ◌<◌, ◌≤◌, ◌↔◌, true, false, length, IfErr, IfOk, IsTrue, OnErr, OnOk};
+ghost use Rattle.output_graph.specs.Graph.{sources};
 ghost use Rattle.set_table.specs.Tabled.{IsRefusal, fresh};
 ghost use Rattle.one_pass.specs.Known.{Knows};
 ghost use Rattle.one_pass.specs.Passes.{IsReadyAt, pass};
 ghost use Rattle.one_pass.specs.Places.{bytes_at, gap_at};
 ghost use Rattle.one_pass.specs.Readings.{AreEnded, HasBegun, HasEndedCopy, HasListed, HasReadOn, IsEndFault, IsEndedThere, IsLaidOf, IsGivenUpAt, IsGivenUpAtEnd, come_to, resumed};
+ghost use Rattle.one_pass.specs.Settling.{HasRebased, HasSettled, IsSettledBy};
 
 use crate::known::Known;
 use crate::pass::{Pass, give_up, give_up_table};
@@ -50,6 +52,13 @@ impl<'a> Model for Reading<'a> {
 pub struct Laid {
     pub(crate) state: TableState,
     pub(crate) pass: Pass,
+}
+
+/// A reading whose layer was settled, and the lists of the words that were given.
+#[derive(Drop)]
+pub struct Settled<'a> {
+    pub reading: Reading<'a>,
+    pub lists: RowLists,
 }
 
 impl<'a> Reading<'a> {
@@ -161,6 +170,47 @@ impl<'a> Reading<'a> {
             Err(fault) => return Err(fault),
         };
         Ok(ended.turn(steps))
+    }
+
+    /// Gives the words of the settled sets of the layer, as rows in block order, and gives these sets up; the others go on as they
+    /// were. A set is settled where none of its states is in `unspent` and one is in `lasting`. The members of the sets are read,
+    /// and nothing is looked up. Where no set is settled nothing is copied.
+    ///
+    /// With g live cells and l sets in the layer it takes at most 6g + 10l + 3 steps. The only refusal is want of memory.
+    pub fn settle<L: Ledger>(
+        self,
+        alloc: Global,
+        unspent: &[bool],
+        lasting: &[bool],
+        steps: &mut Steps<L>,
+    ) -> Result<Settled<'a>, OutOfMemory>
+        requires unspent { self.table.graph.states ≤ length unspent.now }
+        requires lasting { self.table.graph.states ≤ length lasting.now }
+        ensures settled { IfOk result (λ r. HasSettled (IsSettledBy unspent.now lasting.now)
+            self.entry steps.old r.reading r.lists steps.new) }
+        ensures stopped { OnErr result (steps.new ≤ steps.old + 6 * length self.entry.graph.cells + 10 * length (sources self.entry.graph) + 3) }
+    {
+        let Reading { table, mut pass } = self;
+        match pass.settle(alloc, &table, unspent, lasting, steps) {
+            Ok(lists) => Ok(Settled {
+                reading: Reading { table, pass },
+                lists,
+            }),
+            Err(OutOfMemory) => {
+                give_up(table, pass);
+                Err(OutOfMemory)
+            }
+        }
+    }
+
+    /// Stands at position 0 again, where one cell is live at most: nothing in the graph speaks of a position then. What is known of
+    /// layers, and what is searched for, is kept. Else nothing changes.
+    pub fn rebase(&mut self) -> bool
+        ensures value { IsTrue result ↔ length self.old.graph.cells ≤ 1 }
+        ensures rebased { result ≡ true → HasRebased self.old self.new }
+        ensures same { result ≡ false → self.new ≡ self.old }
+    {
+        self.pass.rebase()
     }
 
     /// What is known of whole layers.

@@ -52,6 +52,14 @@ impl Search {
         }
     }
 
+    /// Goes on where the pass stands at position 0 again.
+    pub(crate) fn begin_again(&mut self)
+        ensures { self.new.ahead.waiting ≡ self.old.ahead.waiting }
+    {
+        self.ahead.begin_again();
+        self.later = 0;
+    }
+
     /// For how many bytes the layer in which a piece begins, at a position, counts as unchanged: for enough, where it is
     /// searched at once.
     pub(crate) fn quiet_in(&self, layer: Option<usize>, at: usize) -> u32 {

@@ -166,6 +166,14 @@ impl Ahead {
         over
     }
 
+    /// Goes on where positions begin at 0 again: what has been worked out is kept, and no search pauses.
+    pub(crate) fn begin_again(&mut self)
+        ensures { self.new.waiting ≡ self.old.waiting }
+    {
+        self.spent = 0;
+        self.paused = 0;
+    }
+
     /// Whether no search is made at a position, since searching gained nothing.
     pub(crate) fn is_paused(&self, at: usize) -> bool {
         at < self.paused

@@ -2,7 +2,7 @@ use Rattle.std.proofs.Common.{get_or, inl, inr, refl, sym, subst, ◌∙◌}
 use Rattle.std.proofs.lemmas.Bool.{false≢true}
 use Rattle.span_core.proofs.HasLaws.{Has-get_or, Has-take_more_cases}
 use Rattle.marked_automaton.specs.Reach.{IsFlagged}
-use Rattle.followed_document.proofs.telling.some_good.Goals as goal
+use Rattle.one_pass.proofs.settled.some_good.Goals as goal
 
 pub bounds-good-state : goal.bounds-good-state
 bounds-good-state c =

@@ -8,9 +8,8 @@ use Rattle.numbered_lists.specs.Numbered.{set_at}
 use Rattle.output_graph.specs.Graph.{Graph, sources}
 use Rattle.set_table.specs.Tabled.{Tabled}
 use Rattle.one_pass.specs.Layers.{source_at}
-use Rattle.followed_document.specs.Flags.{flag_at}
-use Rattle.followed_document.specs.Settling.{Rule}
-use Rattle.followed_document.specs.Steps.{AreToldTo}
+use Rattle.one_pass.specs.Flags.{AreToldTo, IsTold, flag_at}
+use Rattle.one_pass.specs.Settling.{Rule}
 
 pub told_none : (G : Rule) (t : Tabled) (g : Graph) (flags : List Bool) → flags ≡ [] → AreToldTo G t g 0 flags
 told_none G t g flags e = (ap length e, λ j l. absurd (omega (arith, l)))
@@ -28,8 +27,8 @@ told_more G t g k flags more b set told is same tells = (
     here : name k ≡ set_at t.sets set
     here = ap (set_at t.sets) (sym same)
 
-    each : (j : ℕ) → j < k + 1 → (flag_at more j ≡ true → G (name j)) × (flag_at more j ≡ false → G (name j) → ⊥)
-    each j l = elim (cases_lt j k) as (λ _. (flag_at more j ≡ true → G (name j)) × (flag_at more j ≡ false → G (name j) → ⊥)) [
+    each : (j : ℕ) → j < k + 1 → IsTold G t g more j
+    each j l = elim (cases_lt j k) as (λ _. IsTold G t g more j) [
       | inl m ↦ (let front : flag_at more j ≡ flag_at flags j = ap (λ (xs : List Bool). flag_at xs j) is ∙ get_or_append_left flags (b ∷ []) false j (omega (arith, m, told.0)) in
           (λ e. (told.1 j m).0 (sym front ∙ e), λ e. (told.1 j m).1 (sym front ∙ e)))
       | inr m ↦ (let at : j ≡ length flags = omega (arith, m, l, told.0) in

@@ -5,9 +5,9 @@ use Rattle.marked_automaton.specs.Reach.{IsFlagged}
 use Rattle.output_graph.specs.Graph.{sources}
 use Rattle.one_pass.specs.Layers.{no_source, source_at}
 use Rattle.one_pass.proofs.GraphLaws.{whole_count, whole_set}
-use Rattle.followed_document.specs.Laws.{IsSettledSet}
-use Rattle.followed_document.proofs.Told.{told_more}
-use Rattle.followed_document.proofs.telling.settled_sources.Goals as goal
+use Rattle.one_pass.specs.Settling.{IsSettledSet}
+use Rattle.one_pass.proofs.Told.{told_more}
+use Rattle.one_pass.proofs.settled.settled_sources.Goals as goal
 
 pub members-requires : goal.members-requires
 members-requires c =

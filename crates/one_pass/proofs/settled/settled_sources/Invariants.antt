@@ -1,7 +1,7 @@
 use Rattle.marked_automaton.specs.Reach.{IsFlagged}
-use Rattle.followed_document.specs.Laws.{IsSettledSet}
-use Rattle.followed_document.specs.Steps.{AreToldTo}
-use Rattle.followed_document.proofs.telling.settled_sources.Given as goal
+use Rattle.one_pass.specs.Settling.{IsSettledSet}
+use Rattle.one_pass.specs.Flags.{AreToldTo}
+use Rattle.one_pass.proofs.settled.settled_sources.Given as goal
 
 -- the first k sources have been told
 abbrev pub invariant-loop-k : goal.invariant-loop-k

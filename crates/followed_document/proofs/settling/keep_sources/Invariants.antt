@@ -1,6 +1,0 @@
-use Rattle.followed_document.specs.Flags.{IsKeeping}
-use Rattle.followed_document.proofs.settling.keep_sources.Given as goal
-
--- the first k sources have been kept or given up
-abbrev pub invariant-loop-k : goal.invariant-loop-k
-invariant-loop-k g l = IsKeeping l.fn.graph l.settled l.at l.k l.graph

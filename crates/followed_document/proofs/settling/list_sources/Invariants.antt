@@ -1,6 +1,0 @@
-use Rattle.followed_document.specs.Flags.{IsListing}
-use Rattle.followed_document.proofs.settling.list_sources.Given as goal
-
--- the first k sources have been given, or not
-abbrev pub invariant-loop-k : goal.invariant-loop-k
-invariant-loop-k g l = IsListing l.fn.graph l.settled l.at l.k l.graph
