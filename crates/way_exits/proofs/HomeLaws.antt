@@ -1,5 +1,5 @@
 -- A set of states leads back to itself over bytes in which a text does not stand, and of which the last brings it home.
-use Rattle.std.proofs.Common.{◌≡◌, ℕ, zero, suc, ◌<◌, ◌≤◌, ◌⊎◌, List, [], ◌∷◌, length, get_or, take, inl, inr, refl, sym, subst, arith, ◌∙◌}
+use Rattle.std.proofs.Common.{ℕ, zero, suc, ◌<◌, ◌≤◌, ◌⊎◌, List, [], ◌∷◌, length, get_or, take, inl, inr, refl, sym, subst, arith, ◌∙◌}
 use Rattle.std.specs.Prelude.{Vec}
 use Rattle.std.specs.Global.{Global}
 use Rattle.span_core.specs.Lists.{Has}
@@ -85,7 +85,10 @@ module _ (ways : List Way) (states region : List ℕ) (depth : ℕ → ℕ) (tex
         let later = leads_home (c ∷ d) small.1 last q h in
         let loop = later.2 in
         let y = loop.0 in (
-          later.0, later.1, loop, y.marks ∷ later.3,
+          later.0,
+          later.1,
+          loop,
+          y.marks ∷ later.3,
           (y, loop.1, loop.2, loop.4 b small.0, later.3, refl, subst (λ x. IsPath ways x (c ∷ d) later.3 q) (sym (loop.3.1 ∙ loop.2)) later.4),
         )
 

@@ -93,10 +93,8 @@ impl Waiting {
     /// tells; 0 where it tells nothing. The clause is of all ways of which what is known is true.
     pub fn next_place(&self, bytes: &[u8]) -> usize
         ensures within { result ≤ length bytes.now }
-        ensures back {
-            (ways : List Way) → LeaveBy ways self.now.states.items self.now.exit →
-            (set : List ℕ) → Knows self.now set → ComeBack ways set (take result bytes.now)
-        }
+        ensures back { (ways : List Way) → LeaveBy ways self.now.states.items self.now.exit →
+            (set : List ℕ) → Knows self.now set → ComeBack ways set (take result bytes.now) }
     {
         match &self.exit {
             Exit::Front(chain) => chain.next_place(bytes),
