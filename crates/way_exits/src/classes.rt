@@ -48,7 +48,7 @@ impl Classes {
     }
 
     /// The classes of the bytes that no set of these ways parts. Where there are more than 64 sets, or memory is short, each
-    /// byte has its own. It looks at each way once for each set before it.
+    /// byte has its own. It compares each way with at most 64 sets.
     pub fn of_ways(alloc: Global, ways: &[Way]) -> Classes {
         match parts_of(alloc, ways) {
             Some(parts) => Classes::of_parts(&parts),

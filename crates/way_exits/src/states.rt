@@ -22,8 +22,8 @@ pub fn has(states: &[u32], state: u32) -> bool
     false
 }
 
-/// Puts these states among others, each once, and tells whether all of them are there: not where there would be more than 64
-/// states, or memory runs out, and then the first of them may be.
+/// Puts these states among others, each once, and tells whether all of them are there. They are not where there would be more
+/// than 64 states, or memory runs out; some of them may be there then.
 pub fn put_all(states: &mut Vec<u32>, more: &[u32]) -> bool {
     for state in more {
         if !put(states, *state) {
@@ -89,8 +89,8 @@ pub(crate) fn is_all(set: &ByteSet) -> bool
     set.negation().is_empty()
 }
 
-/// Whether each of the states loops on every byte, or is entered, without marks, from another of them that does. So it is of a set
-/// that a byte may bring home; it is a hint on where to look, and nothing follows from it.
+/// Whether each of the states loops on every byte, or is entered, without marks, from another of them that does: only such a set
+/// may come home. Nothing follows from the answer; it says where looking for more is worth the time.
 pub fn are_home(ways: &[Way], states: &[u32]) -> bool {
     for state in states {
         if !loops(ways, *state) && !is_entered(ways, states, *state) {

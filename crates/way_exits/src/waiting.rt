@@ -20,24 +20,24 @@ use std::alloc::Global;
 /// How states are left.
 #[derive(Drop)]
 pub enum Exit {
-    /// By bytes of sets in turn, which bytes beside those of a loop take.
+    /// By bytes of sets in turn, the first of them on a way that is no loop.
     Front(Chain),
-    /// Behind a text alone. Its bytes that kill are taken from the states by loops alone, and from what left them by nothing.
+    /// Behind a text alone. On the bytes that kill only loops lead from the states, and no way leads on from what left them.
     Inside(InnerText),
-    /// Behind a text alone, and a byte brings each of some sets of the states home.
+    /// Behind a text alone, and some bytes bring sets of the states home.
     Home(Homes),
 }
 
-/// Sets of states, each in ascending order without repetitions, and the text behind which alone they are left. The bytes that kill
-/// bring each set home: they lead from it to itself alone, without marks.
+/// Sets of states, by their numbers in any order, and the text behind which alone they are left. Its bytes that kill bring each
+/// set home: they lead from it to itself alone, without marks.
 #[derive(Drop)]
 pub struct Homes {
     pub sets: Vec<Vec<u32>>,
     pub text: InnerText,
 }
 
-/// States, by their numbers and each once, and what is known of how they are left. It is true of the ways that it was made of
-/// (`LeaveBy`), whatever else of the automaton changes.
+/// States, by their numbers in any order, and what is known of how they are left. It is true of the ways that it was made of
+/// (`LeaveBy`), and says nothing of ends.
 #[derive(Drop)]
 pub struct Waiting {
     pub states: Vec<u32>,
@@ -46,8 +46,8 @@ pub struct Waiting {
 
 impl Waiting {
     /// How these states are left, each of which loops on each byte: by a text inside rather than by a chain of wide sets, which
-    /// begins at too many places. None where nothing is found that can be searched for, or memory runs out. Each way is looked
-    /// at some 32 times for each state that is reached.
+    /// begins at too many places. None where nothing is found that can be searched for, or memory runs out. It looks at each
+    /// way some 32 times, and more often only where many states are reached, of which it follows 64 at most.
     pub fn of_loops(alloc: Global, ways: &[Way], states: Vec<u32>) -> Option<Waiting>
         requires { (p : ℕ) → Has states.items p → IsLooping ways.now p }
         ensures { IfSome result (λ w. LeaveBy ways.now w.states.items w.exit) }
