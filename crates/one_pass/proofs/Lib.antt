@@ -1,8 +1,6 @@
 pub mod Advancing
-pub mod AheadLaws
 pub mod Due
 pub mod BackLaws
-pub mod ClassLaws
 pub mod Composing
 pub mod CopyLaws
 pub mod Ending
@@ -10,15 +8,13 @@ pub mod EntryLaws
 pub mod Faulting
 pub mod Goings
 pub mod GraphLaws
-pub mod InsideLaws
-pub mod HomeLaws
 pub mod KnownLaws
 pub mod KnownStepLaws
 pub mod LawProofs
-pub mod RegionLaws
 pub mod Making
 pub mod PartLaws
 pub mod Parting
+pub mod PathLaws
 pub mod PlaceLaws
 pub mod ReadLaws
 pub mod ReadingLaws
@@ -29,7 +25,6 @@ pub mod Sources
 pub mod Stepping
 pub mod Telling
 pub mod Turns
-pub mod WaitLaws
 pub mod Weighing
 pub mod Whole
 pub mod OpenLaws

@@ -6,9 +6,9 @@ ghost use Rattle.std.specs.Prelude.{◌≡◌, ◌⊎◌, ℕ, ◌+◌, ◌*◌,
 ghost use Rattle.one_pass.specs.Entered.{has_entry, is_entered, entry_place};
 ghost use Rattle.one_pass.specs.declared.entries.Entry.TheVariants.{Unknown as unknown};
 
-use crate::classes::{BYTES, Classes};
 use span_core::ByteSet;
 use std::alloc::Global;
+use way_exits::{BYTES, Classes};
 
 /// What is entered of a byte of a layer.
 #[derive(Clone, Copy, Drop)]

@@ -14,16 +14,15 @@ ghost use Rattle.one_pass.specs.Known.{AreAlike, AreLookUps, IsEntry, IsGlide, I
 ghost use Rattle.one_pass.specs.KnownSteps.{known_step_of};
 ghost use Rattle.one_pass.specs.Passes.{AreGiven};
 
-use crate::classes::Classes;
 use crate::entries::{Entries, Entry};
 use crate::known_steps::KnownSteps;
 use crate::places::stays_of;
-use crate::waiting::has;
 use numbered_lists::NumberedLists;
 use output_graph::{OutputGraph, Program};
 use set_table::Table;
 use span_core::{ByteSet, Edge, OutOfMemory};
 use std::alloc::Global;
+use way_exits::{Classes, has};
 
 /// A layer with more sets is not kept: finding the targets of its edges one by one would cost more than a step.
 const MOST_SETS: usize = 256;
@@ -336,8 +335,8 @@ fn edges_on(table: &Table<'_>, sets: &[u32], byte: u8) -> usize {
     edges
 }
 
-/// A copy of these sets.
-fn copied(alloc: Global, sets: &[u32]) -> Result<Vec<u32>, OutOfMemory>
+/// A copy of these numbers.
+pub(crate) fn copied(alloc: Global, sets: &[u32]) -> Result<Vec<u32>, OutOfMemory>
     ensures { IfOk result (λ copy. copy.items ≡ sets.now) }
 {
     let mut copy = Vec::new(alloc);

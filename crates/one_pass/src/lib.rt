@@ -14,9 +14,7 @@ pub use reading::read;
 pub use readings::{Laid, Reading, Settled};
 
 mod bytes;
-mod classes;
 mod entries;
-mod inside;
 mod known;
 mod known_steps;
 mod known_table;
@@ -28,7 +26,6 @@ mod pieces;
 mod places;
 mod reading;
 mod readings;
-mod regions;
 mod search;
 mod settled;
 mod settling;

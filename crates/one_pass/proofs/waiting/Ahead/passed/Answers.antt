@@ -1,7 +1,7 @@
 use Rattle.std.proofs.Common.{◌≤◌, ℕ, List, length, take, arith, subst, ap, ◌∙◌}
 use Rattle.std.proofs.lemmas.List.{length-take-le}
 use Rattle.one_pass.specs.Passes.{AllLeadBack}
-use Rattle.one_pass.proofs.WaitLaws.{front_of}
+use Rattle.one_pass.proofs.PathLaws.{front_of}
 use Rattle.one_pass.proofs.waiting.Ahead.passed.Goals as goal
 
 pub returns-clause-back : goal.returns-clause-back

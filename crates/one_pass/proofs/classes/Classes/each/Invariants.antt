@@ -1,5 +1,0 @@
-use Rattle.one_pass.proofs.ClassLaws.{AreBelow}
-use Rattle.one_pass.proofs.classes.Classes.each.Given as goal
-
-abbrev pub invariant-loop-byte : goal.invariant-loop-byte
-invariant-loop-byte l = AreBelow 256 l.numbers

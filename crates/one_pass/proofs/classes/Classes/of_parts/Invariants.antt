@@ -1,6 +1,0 @@
-use Rattle.std.proofs.Common.{length}
-use Rattle.one_pass.proofs.ClassLaws.{AreBelow}
-use Rattle.one_pass.proofs.classes.Classes.of_parts.Given as goal
-
-abbrev pub invariant-loop-byte : goal.invariant-loop-byte
-invariant-loop-byte l = AreBelow (length l.parts) l.numbers
