@@ -105,9 +105,9 @@ module _ (sets : List ByteClass) (k : ℕ) (old new : List Bool) (flag : Bool) (
   pub left_out : IsUncovered flag (get_or sets k no_bytes) → (q : ℕ) → IsFlagged (put new k false) q ↔ (IsFlagged old q × (q < k + 1 → HasEachByte (get_or sets q no_bytes)))
   left_out un q = elim (cases_eq q k) [
     | inl e ↦ (
-        (λ h. absurd (false≢true (sym (unset_here new k) ∙ subst (IsFlagged (put new k false)) e h))),
-        (λ h. absurd (un.lacks (subst (λ i. HasEachByte (get_or sets i no_bytes)) e (h.1 (omega (arith, e)))))),
-      )
+      (λ h. absurd (false≢true (sym (unset_here new k) ∙ subst (IsFlagged (put new k false)) e h))),
+      (λ h. absurd (un.lacks (subst (λ i. HasEachByte (get_or sets i no_bytes)) e (h.1 (omega (arith, e)))))),
+    )
     | inr ne ↦
         let same : get_or (put new k false) q false ≡ get_or new q false = get_or-set_other new k q false false ne in (
           (λ h. let r = (so_far q).0 (sym same ∙ h) in (r.0, λ l. r.1 (omega (arith, l, ne)))),
