@@ -27,28 +27,87 @@ pub(crate) struct Settling {
 /// The state behind an atom and its last place are lasting, if the atom is not tied to the end. They are spent, if no capture ends
 /// there. Of a difference a state is lasting only where no text takes the row away any more.
 pub static SETTLING: [Settling; 10] = [
-    row("/a/", 3, 3, 2),
-    row("/!x{a}/", 3, 1, 1),
-    row("/!x{a}b/", 4, 2, 2),
-    row("/!x{a}b$/", 3, 1, 0),
-    row("/!x{a}b.*$/", 4, 2, 0),
-    row("/!x{a}|b/", 4, 2, 2),
-    row("/!x{a}b/ union /!x{c}d/", 8, 4, 4),
-    row("/!x{a}b/ join /!x{.}/", 4, 2, 2),
-    row("/!x{a}/ minus /!x{a}b/", 3, 1, 1),
-    row("/!x{a}/ minus /!x{a}[^b]*b/", 3, 1, 0),
-];
-
-const fn row(text: &'static str, states: u32, spent: usize, lasting: usize) -> Settling {
     Settling {
-        text,
+        text: "/a/",
         settled: Settled {
-            states,
-            spent,
-            lasting,
+            states: 3,
+            spent: 3,
+            lasting: 2,
         },
-    }
-}
+    },
+    Settling {
+        text: "/!x{a}/",
+        settled: Settled {
+            states: 3,
+            spent: 1,
+            lasting: 1,
+        },
+    },
+    Settling {
+        text: "/!x{a}b/",
+        settled: Settled {
+            states: 4,
+            spent: 2,
+            lasting: 2,
+        },
+    },
+    Settling {
+        text: "/!x{a}b$/",
+        settled: Settled {
+            states: 3,
+            spent: 1,
+            lasting: 0,
+        },
+    },
+    Settling {
+        text: "/!x{a}b.*$/",
+        settled: Settled {
+            states: 4,
+            spent: 2,
+            lasting: 0,
+        },
+    },
+    Settling {
+        text: "/!x{a}|b/",
+        settled: Settled {
+            states: 4,
+            spent: 2,
+            lasting: 2,
+        },
+    },
+    Settling {
+        text: "/!x{a}b/ union /!x{c}d/",
+        settled: Settled {
+            states: 8,
+            spent: 4,
+            lasting: 4,
+        },
+    },
+    Settling {
+        text: "/!x{a}b/ join /!x{.}/",
+        settled: Settled {
+            states: 4,
+            spent: 2,
+            lasting: 2,
+        },
+    },
+    Settling {
+        text: "/!x{a}/ minus /!x{a}b/",
+        settled: Settled {
+            states: 3,
+            spent: 1,
+            lasting: 1,
+        },
+    },
+    Settling {
+        text: "/!x{a}/ minus /!x{a}[^b]*b/",
+        settled: Settled {
+            states: 3,
+            spent: 1,
+            lasting: 0,
+        },
+    },
+];
 
 /// Checks the states of a query's automaton.
 pub(crate) fn check_settling(alloc: Global, one: &Settling) -> Result<(), Fault> {
