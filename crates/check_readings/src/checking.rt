@@ -20,8 +20,6 @@ pub(crate) struct Tally {
     pub readings: usize,
     /// The readings of a document in two pieces, at all positions.
     pub pieces: usize,
-    /// The words that were given before the end of a document, over all cuts.
-    pub early: usize,
 }
 
 impl Tally {
@@ -30,7 +28,6 @@ impl Tally {
             queries: 0,
             readings: 0,
             pieces: 0,
-            early: 0,
         }
     }
 
@@ -40,7 +37,6 @@ impl Tally {
             queries: self.queries.saturating_add(other.queries),
             readings: self.readings.saturating_add(other.readings),
             pieces: self.pieces.saturating_add(other.pieces),
-            early: self.early.saturating_add(other.early),
         }
     }
 }

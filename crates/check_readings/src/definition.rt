@@ -156,7 +156,7 @@ fn idle_among(
 }
 
 /// Whether one of the states has an end with these markers.
-pub(crate) fn has_end(automaton: &Automaton, states: &[u32], marks: Marks) -> bool {
+fn has_end(automaton: &Automaton, states: &[u32], marks: Marks) -> bool {
     automaton
         .stops()
         .iter()

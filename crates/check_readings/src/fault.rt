@@ -32,13 +32,6 @@ pub(crate) enum Fault {
         read: Vec<Vec<Block>>,
         whole: Vec<Vec<Block>>,
     },
-    /// The words of a document that is settled behind two pieces, cut there, are not those of the whole, each once.
-    Settled {
-        document: Vec<u8>,
-        cut: usize,
-        early: Vec<Vec<Block>>,
-        last: Vec<Vec<Block>>,
-    },
     /// A walk through the rows did not end where it must.
     TooManyRows,
     /// There is not enough memory.

@@ -3,8 +3,7 @@
 //! For each query of a table, each short document over the table's bytes is read by the query's automaton at every set of
 //! positions. The words of each reading must be the words that its definition gives, in block order: this program lists
 //! them by going through the places one by one, with lists of states and no table, graph or cell. A reading at all
-//! positions must have the same words where the document is read in two pieces, wherever it is cut; and where it is settled
-//! behind each, every word once, before the end or there.
+//! positions must have the same words where the document is read in two pieces, wherever it is cut.
 //!
 //! Then it reads a document that nothing matches, of which one cell alone is kept, and two of equal lines, of which few
 //! bytes are read set by set.
@@ -24,7 +23,6 @@ mod idle;
 mod pieces;
 mod reading;
 mod repeated;
-mod settling;
 mod words;
 
 use chains::chains_are_freed;
@@ -67,10 +65,8 @@ fn check_queries(rt: &HostRuntime) -> io::Result<Ending> {
         queries,
         readings,
         pieces,
-        early,
     } = total;
     println!(rt; "queries {queries} readings {readings} in pieces {pieces}")?;
-    println!(rt; "words given before the end {early}")?;
     Ok(Ending::Agrees)
 }
 

@@ -7,7 +7,6 @@ use crate::checking::Tally;
 use crate::definition::words_by_definition;
 use crate::fault::Fault;
 use crate::pieces::check_pieces;
-use crate::settling::check_settling;
 use crate::words::{Block, words_of};
 use check_cases::MOST_BYTES;
 use marked_automaton::Automaton;
@@ -40,7 +39,6 @@ pub(crate) fn check_readings(
     Ok(Tally {
         readings: all as usize + 1,
         pieces: check_pieces(alloc, automaton, document, &words)?,
-        early: check_settling(alloc, automaton, document, &words)?,
         ..Tally::none()
     })
 }
