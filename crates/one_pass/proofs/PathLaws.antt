@@ -1,8 +1,8 @@
 -- A set over whose members paths of ways lead back leads back to itself.
-use Rattle.std.proofs.Common.{◌≡◌, ℕ, zero, suc, ◌<◌, ◌≤◌, List, [], ◌∷◌, ◌++◌, length, take, map, refl, sym, ap, subst, arith, ◌∙◌}
-use Rattle.std.specs.Prelude.{nat_eq}
+use Rattle.std.proofs.Common.{◌≡◌, ℕ, zero, suc, ◌<◌, ◌≤◌, Bool, true, false, List, [], ◌∷◌, ◌++◌, length, take, map, refl, sym, ap, subst, arith, ◌∙◌}
+use Rattle.std.specs.Prelude.{nat_eq, if◌then◌else◌}
 use Rattle.std.specs.List.{filter}
-use Rattle.std.proofs.lemmas.Bool.{eq-eqb}
+use Rattle.std.proofs.lemmas.Bool.{eq-eqb, eqb-true}
 use Rattle.span_core.specs.Lists.{Has, IsInOrder}
 use Rattle.span_core.proofs.HasLaws.{Has-get_or, Has-map, Has-map_cases}
 use Rattle.marked_automaton.specs.declared.way.Way.{Way}
@@ -66,13 +66,20 @@ none_blocks : (i : ℕ) (marks : List ℕ) → AreNone marks → blocks i marks 
 none_blocks i [] none = refl
 none_blocks i (m ∷ marks) none = ap (λ k. mark_block i k ++ blocks (suc i) marks) none.0 ∙ none_blocks (suc i) marks none.1
 
+-- a block of marks, or none
+abbrev block_if : ℕ → ℕ → Bool → Word
+block_if i m none = if none then [] else (i, m) ∷ []
+
 -- where a block and what follows it are empty there are no marks
 no_block : (i m : ℕ) (rest : Word) → mark_block i m ++ rest ≡ [] → (m ≡ 0) × (rest ≡ [])
-no_block i zero rest is = (refl, is)
-no_block i (suc m) rest is = absurd (some is)
+no_block i m rest is = go (nat_eq m 0) refl
   where
-    some : (i, suc m) ∷ rest ≡ [] → ⊥
+    some : (i, m) ∷ rest ≡ [] → ⊥
     some e = cc
+
+    go : (v : Bool) → nat_eq m 0 ≡ v → (m ≡ 0) × (rest ≡ [])
+    go true e = (eqb-true m 0 e, subst (λ v. block_if i m v ++ rest ≡ []) e is)
+    go false e = absurd (some (subst (λ v. block_if i m v ++ rest ≡ []) e is))
 
 -- ---- choices of edges, and paths of ways
 
