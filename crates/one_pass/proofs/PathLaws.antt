@@ -1,8 +1,8 @@
 -- A set over whose members paths of ways lead back leads back to itself.
-use Rattle.std.proofs.Common.{◌≡◌, ℕ, zero, suc, ◌<◌, ◌≤◌, List, [], ◌∷◌, ◌++◌, length, take, map, refl, sym, ap, subst, arith, ◌∙◌}
-use Rattle.std.specs.Prelude.{nat_eq}
+use Rattle.std.proofs.Common.{◌≡◌, ℕ, zero, suc, ◌<◌, ◌≤◌, Bool, true, false, List, [], ◌∷◌, ◌++◌, take, map, refl, sym, ap, subst, arith, ◌∙◌}
+use Rattle.std.specs.Prelude.{nat_eq, if◌then◌else◌}
 use Rattle.std.specs.List.{filter}
-use Rattle.std.proofs.lemmas.Bool.{eq-eqb}
+use Rattle.std.proofs.lemmas.Bool.{eq-eqb, eqb-true}
 use Rattle.span_core.specs.Lists.{Has, IsInOrder}
 use Rattle.span_core.proofs.HasLaws.{Has-get_or, Has-map, Has-map_cases}
 use Rattle.marked_automaton.specs.declared.way.Way.{Way}
@@ -66,13 +66,20 @@ none_blocks : (i : ℕ) (marks : List ℕ) → AreNone marks → blocks i marks 
 none_blocks i [] none = refl
 none_blocks i (m ∷ marks) none = ap (λ k. mark_block i k ++ blocks (suc i) marks) none.0 ∙ none_blocks (suc i) marks none.1
 
+-- a block of marks, or none
+abbrev block_if : ℕ → ℕ → Bool → Word
+block_if i m none = if none then [] else (i, m) ∷ []
+
 -- where a block and what follows it are empty there are no marks
 no_block : (i m : ℕ) (rest : Word) → mark_block i m ++ rest ≡ [] → (m ≡ 0) × (rest ≡ [])
-no_block i zero rest is = (refl, is)
-no_block i (suc m) rest is = absurd (some is)
+no_block i m rest is = go (nat_eq m 0) refl
   where
-    some : (i, suc m) ∷ rest ≡ [] → ⊥
+    some : (i, m) ∷ rest ≡ [] → ⊥
     some e = cc
+
+    go : (v : Bool) → nat_eq m 0 ≡ v → (m ≡ 0) × (rest ≡ [])
+    go true e = (eqb-true m 0 e, subst (λ v. block_if i m v ++ rest ≡ []) e is)
+    go false e = absurd (some (subst (λ v. block_if i m v ++ rest ≡ []) e is))
 
 -- ---- choices of edges, and paths of ways
 
@@ -84,7 +91,9 @@ module _ (A : Automaton) where
   edges_path (b ∷ d) i from w to l x h =
       let later = edges_path d (suc i) l.0.to l.2 to l.4 x h in
       let y = edge_way A from b l.0 later.0 l.1 later.1 in (
-        y.0.from, y.2, y.0.marks ∷ later.2,
+        y.0.from,
+        y.2,
+        y.0.marks ∷ later.2,
         (y.0, y.1, refl, y.3, later.2, refl, subst (λ q. IsPath A.ways q d later.2 x) (sym y.5) later.3),
         ap (λ m. mark_block i m ++ blocks (suc i) later.2) y.4 ∙ (ap (λ v. mark_block i l.0.marks ++ v) later.4 ∙ l.3),
       )
@@ -97,7 +106,8 @@ module _ (A : Automaton) where
       let y = path.0 in
       let e = way_edge A from b y path.1 (subst (Has from) (sym path.2) h) path.3 in
       let later = path_edges d (suc i) e.0.to y.to e.3 path.4 q path.6 in (
-        later.0, later.1,
+        later.0,
+        later.1,
         (e.0, e.1, blocks (suc i) path.4, ap (λ m. mark_block i m ++ blocks (suc i) path.4) e.2 ∙ ap (blocks i) path.5, later.2),
       )
 
