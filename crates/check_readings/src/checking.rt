@@ -49,6 +49,13 @@ pub(crate) fn check_text(alloc: Global, bytes: &[u8], text: &str) -> Result<Tall
     check_query(alloc, bytes, &query)
 }
 
+/// The automaton of a text's query.
+pub(crate) fn automaton_of(alloc: Global, text: &[u8]) -> Result<Automaton, Fault> {
+    let query = read_query(alloc, text)?;
+    let compiled = compile(alloc, &query)?;
+    Ok(compiled.into_automaton())
+}
+
 fn check_query(alloc: Global, bytes: &[u8], query: &Query) -> Result<Tally, Fault>
     requires sound { IsSound (query_of query.now) }
     requires bytes { 0 < length bytes.now }

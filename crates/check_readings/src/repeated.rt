@@ -1,10 +1,9 @@
 //! A document of one line over and over, of whose bytes few are read set by set.
 ghost use Rattle.std.specs.Prelude.{◌≡◌, ◌^◌, ◌<◌, ◌≤◌, length};
 
+use crate::checking::automaton_of;
 use crate::fault::Fault;
 use one_pass::Reading;
-use query_automaton::compile;
-use query_parser::read_query;
 use span_core::Steps;
 use std::alloc::Global;
 use std::marker::Brand;
@@ -51,20 +50,19 @@ pub(crate) fn kept_of_digits(alloc: Global) -> Result<Kept, Fault> {
     )
 }
 
-fn kept_of<L: Ledger>(alloc: Global, blank: Blank, query: &[u8], line: &[u8]) -> Result<Kept, Fault>
+fn kept_of<L: Ledger>(alloc: Global, blank: Blank, text: &[u8], line: &[u8]) -> Result<Kept, Fault>
     requires name { blank.name ≡ L.name }
     requires parts { blank.parts ≡ L.parts }
     requires some { 0 < L.parts }
     requires few { length line.now ≤ 64 }
 {
     let mut steps = Steps::<L>::new(blank);
-    let query = read_query(alloc, query)?;
-    let compiled = compile(alloc, &query)?;
+    let automaton = automaton_of(alloc, text)?;
     let mut document = Vec::new(alloc);
     for _ in 0..LINES {
         document.extend_from_slice(line)?;
     }
-    let reading = Reading::begin(alloc, compiled.automaton(), LIMIT, WORDS, &mut steps)?;
+    let reading = Reading::begin(alloc, &automaton, LIMIT, WORDS, &mut steps)?;
     let reading = reading.read(&document, &mut steps)?;
     let known = reading.known();
     Ok(Kept {
