@@ -32,7 +32,7 @@ class Part(NamedTuple):
 
 
 def literal(word):
-    return Part(word, re.escape(word), len(word), word, is_text=True)
+    return Part(word.replace('.', r'\.'), re.escape(word), len(word), word, is_text=True)
 
 
 def one_of(words, sample):
@@ -120,9 +120,11 @@ class Bounded:
         """Other boundaries behind than in front, and perhaps one between: `\\n!x{[^\\n",]*},!y{[^\\n",]*ing[^\\n",]*}"`."""
         front, between, behind = self.pick.sample(SIGNS, 3)
         letters = '[^%s%s%s]' % (front, between, behind)
-        first = self.perhaps(self.some(letters, 'cd0')._replace(name=self.name()))
+        first = self.perhaps(self.some(letters, 'cd0'))
+        if first:
+            first = [first[0]._replace(name=self.name()), sign_of(between)]
         text = self.perhaps(self.some(letters, 'cd0')) + [self.needle()] + self.perhaps(self.some(letters, 'cd0'))
-        return [sign_of(front)] + (first + [sign_of(between)] if first else []) + [group(self.name(), text), sign_of(behind)]
+        return [sign_of(front)] + first + [group(self.name(), text), sign_of(behind)]
 
     def opening(self):
         """A capture that begins, ends or stands on the byte of a boundary: `!x{[^\\w]\\w+ing}[^\\w]`."""
