@@ -60,19 +60,19 @@ class Workload(NamedTuple):
 
 
 WORKLOADS = [
-    Workload('A', 'log, user and address', 'log', 291000, 1,
+    Workload('A', 'log, 5.3 MB, user and address', 'log', 291000, 1,
              r'/!user{\w+} logged in from !ip{\d+\.\d+\.\d+\.\d+}/',
              r'(\w+) logged in from (\d+\.\d+\.\d+\.\d+)', 'ip=$-[2]-$+[2] user=$-[1]-$+[1]'),
-    Workload('B', 'sparse', 'errors', 64000000, 11, '/!x{ERROR [A-Z]+}/', '(ERROR [A-Z]+)', 'x=$-[1]-$+[1]'),
-    Workload('C', 'dense', 'runs', 20, 5, '/!x{[ab]+}/', '([ab]+)', 'x=$-[1]-$+[1]'),
-    Workload('D', 'two rows of very many', 'same', 500000, 1, '/!x{a*}/', '(a*)', 'x=$-[1]-$+[1]', ('-n', '2')),
-    Workload('E', 'word pairs', 'sentences', 100000, 7, r'/!x{\w+} (\w+ )*!y{\w+}/',
+    Workload('B', 'sparse, 64 MB, `/!x{ERROR [A-Z]+}/`', 'errors', 64000000, 11, '/!x{ERROR [A-Z]+}/', '(ERROR [A-Z]+)', 'x=$-[1]-$+[1]'),
+    Workload('C', 'dense, 14 kB, `/!x{[ab]+}/`', 'runs', 20, 5, '/!x{[ab]+}/', '([ab]+)', 'x=$-[1]-$+[1]'),
+    Workload('D', '500,000 `a`, two rows of 10^11, `/!x{a*}/ -n 2`', 'same', 500000, 1, '/!x{a*}/', '(a*)', 'x=$-[1]-$+[1]', ('-n', '2')),
+    Workload('E', 'word pairs, 100 kB', 'sentences', 100000, 7, r'/!x{\w+} (\w+ )*!y{\w+}/',
              r'(\w+) (?:\w+ )*(\w+)', 'x=$-[1]-$+[1] y=$-[2]-$+[2]'),
-    Workload('F', 'motif with a gap', 'bases', 8000000, 13, '/!x{TATA[AT]A}[ACGT]{10,40}!y{CAAT}/',
+    Workload('F', 'motif with a gap, 8 MB', 'bases', 8000000, 13, '/!x{TATA[AT]A}[ACGT]{10,40}!y{CAAT}/',
              '(TATA[AT]A)[ACGT]{10,40}(CAAT)', 'x=$-[1]-$+[1] y=$-[2]-$+[2]'),
-    Workload('G', 'determinising', 'letters', 2000000, 17, '/(a|b)*a(a|b){12}!x{c}/',
+    Workload('G', '`/(a|b)*a(a|b){12}!x{c}/`, 2 MB', 'letters', 2000000, 17, '/(a|b)*a(a|b){12}!x{c}/',
              '(?:a|b)*a(?:a|b){12}(c)', 'x=$-[1]-$+[1]'),
-    Workload('U', 'letters of five scripts', 'scripts', 10000000, 1, r'/!x{\p{L}+}/u', r'(\p{L}+)', '', (), True),
+    Workload('U', 'letters of five scripts, 10 MB', 'scripts', 10000000, 1, r'/!x{\p{L}+}/u', r'(\p{L}+)', '', (), True),
 ]
 
 ERRORS, LOG = ('errors', 64000000, 11), ('sparse', 1000000, 1)
@@ -152,7 +152,14 @@ def in_turn(tools, given):
             one = run(tools[tool], given)
             if one:
                 found[tool].append(one)
+    given.loads.append(os.getloadavg()[0])
     return found
+
+
+def load_of(given):
+    """The loads of the machine while it was measured."""
+    least, most = '%.0f' % min(given.loads), '%.0f' % max(given.loads)
+    return least if least == most else '%s to %s' % (least, most)
 
 
 def figure(runs):
@@ -202,18 +209,18 @@ def show(work, given):
 
 def keep(found, given):
     """Writes the two tables of the workloads: beside the bodies, and beside other tools."""
-    facts = {'how': 'bench/workloads.py --keep',
+    facts = {'how': 'bench/workloads.py%s --keep' % (' --bodies ' + given.bodies if given.engine else ''), 'load': load_of(given),
              'note': 'The least processor seconds of %d rounds in turn, and the share of all rows where it is not all.' % given.times}
     names = ['%s: %s' % (work.name, work.what) for work in WORKLOADS]
     bodies = given.bodies.split(',')
     rows = [[name] + [kept.get(key, '-') for key in ['rows', 'rematch', *bodies, 'MB']] for name, kept in zip(names, found)]
     measured.keep('workloads', ['Workload', 'Rows', 'rematch'] + ['`%s`' % body for body in bodies] + ['MB'], rows, given.program,
-                  what='seven workloads', **facts)
+                  what='eight workloads', **facts)
     others = {'pcre2': '`pcre2`, all rows', 'perl': 'Perl, all rows', 'hyperscan': '`hyperscan`', 're2': '`re2`', 'rg': '`rg`',
               'pcre2grep': '`pcre2grep`'}
     rows = [[work.name] + [kept.get(key, '-') for key in ['rematch', *others]] for work, kept in zip(WORKLOADS, found)]
     measured.keep('other_tools', ['Workload', 'rematch', *others.values()], rows, given.program,
-                  what='seven workloads by other tools', **facts)
+                  what='eight workloads by other tools', **facts)
 
 
 def keep_texts(found, given):
@@ -221,7 +228,7 @@ def keep_texts(found, given):
     rows = [['`%s`, %s' % (work.query, work.what)] + [kept.get(key, '-') for key in ['rematch', 'rg', 'pcre2', 'rows']]
             for work, kept in zip(TEXTS, found)]
     measured.keep('texts', ['Query', 'rematch', '`rg`', '`pcre2`, all rows', 'Rows'], rows, given.program, what='queries with a text',
-                  how='bench/workloads.py --texts --keep', note='The least processor seconds of %d rounds in turn.' % given.times)
+                  how='bench/workloads.py --texts --keep', load=load_of(given), note='The least processor seconds of %d rounds in turn.' % given.times)
 
 
 def show_growth(given):
@@ -241,7 +248,7 @@ def show_growth(given):
             print('| %s |' % ' | '.join(table[-1]))
             sys.stdout.flush()
     if given.keep:
-        measured.keep('growth', columns, table, given.program, what='growth', how='bench/workloads.py --growth --keep',
+        measured.keep('growth', columns, table, given.program, what='growth', how='bench/workloads.py --growth --keep', load=load_of(given),
                       note='Median processor seconds of %d rounds.' % given.times)
 
 
@@ -319,7 +326,7 @@ def show_users(given):
     tools = ['rematch', 'pcre2', 'rg', 'hyperscan']
     columns = ['Name', 'Document', 'Query', 'Rows', 'rematch', '`pcre2`, all rows', '`rg`', '`hyperscan`', 'What fails or loses rows']
     print('| %s |\n|%s' % (' | '.join(columns), '---|' * len(columns)))
-    table, loads = [], [os.getloadavg()[0]]
+    table = []
     for query in users(given):
         commands_of = tools_of(query, document_of(query, given.bytes or 16000000, given), given)
         runs = in_turn(commands_of, given)
@@ -328,10 +335,9 @@ def show_users(given):
         missing = ['`%s` not installed' % tool for tool in tools if tool not in commands_of]
         table.append([query.name, '`%s`' % query.kind, '`%s`' % query.query, format(total, ','), *times, ', '.join(missing + [remark])])
         print('| %s |' % ' | '.join(cell.replace('|', '\\|') for cell in table[-1]), flush=True)
-        loads.append(os.getloadavg()[0])
     if given.keep:
         measured.keep('users_queries', columns, table, given.program, what='queries that users write', how='bench/workloads.py --users --keep',
-                      load='%.0f to %.0f' % (min(loads), max(loads)),
+                      load=load_of(given),
                       note='The least processor seconds of %d rounds in turn, on documents of %s bytes.' % (
                           given.times, format(given.bytes or 16000000, ',')))
 
@@ -397,7 +403,8 @@ def main():
     given.program = os.path.abspath(given.program)
     if given.keep and (given.only != 'ABCDEFGU' or given.queries):
         parser.error('--keep is for all workloads')
-    print('load %.2f of %d processors' % (os.getloadavg()[0], os.cpu_count()))
+    given.loads = [os.getloadavg()[0]]
+    print('load %.2f of %d processors' % (given.loads[0], os.cpu_count()))
     with tempfile.TemporaryDirectory() as given.folder:
         given.others = build(given.folder)
         if given.users:
