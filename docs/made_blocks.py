@@ -290,8 +290,8 @@ def beside(_):
     ripgrep = [row for row in rows if is_faster(row, '`rg`')]
     complete = [row for row in rows if seconds(row['`rg`']) and '`rg`' not in row['What fails or loses rows']]
     pcre2 = [row for row in rows if is_faster(row, '`pcre2`, all rows')]
-    return wrapped('Of the %d queries that users write, ripgrep is faster on %d, at the median %.1f times, and returns all rows on %d. '
-                   'PCRE2, made to return all rows, is faster on %d, at the median %.1f times ([the table](bench/README.md#queries-that-users-write)).' % (
+    return wrapped('Of the %d queries that users write, ripgrep is faster on %d (%.1f times at the median), and returns all rows on %d. '
+                   'PCRE2, made to return all rows, is faster on %d (%.1f times at the median): [the table](bench/README.md#queries-that-users-write).' % (
                        len(rows), len(ripgrep), median_gain(ripgrep, '`rg`'), len(complete), len(pcre2), median_gain(pcre2, '`pcre2`, all rows')), 120)
 
 
