@@ -175,7 +175,7 @@ def output(tool, command):
             digest.update(piece)
             lines += piece.count(b'\n')
             last = piece
-    return digest.digest(), int(last) if tool in OTHERS and last[:1].isdigit() else lines
+    return digest.digest(), int(last) if tool in OTHERS and last.strip().isdigit() else lines  # a count, or rows
 
 
 def show(work, given):
@@ -297,6 +297,13 @@ def sorted_rows(command):
     return done.stdout
 
 
+def matches_of_ripgrep(command):
+    """No digest, and how many matches ripgrep finds; one may have several lines."""
+    counted = [word if word != '-oaN' else '-a' for word in command[:1] + ['--count-matches'] + command[1:]]
+    done = subprocess.run(counted, stdin=subprocess.DEVNULL, stdout=subprocess.PIPE, check=False)
+    return None, int(done.stdout or 0)
+
+
 def fault_of(command, given):
     """Why a tool has no figure, in a few words."""
     try:
@@ -314,11 +321,12 @@ def remarks(tools, runs, given):
         if not runs.get(tool):
             found.append('`%s`: %s' % (tool, fault_of(tools[tool], given)))
             continue
-        told, rows = output(tool, tools[tool])
+        told, rows = matches_of_ripgrep(tools[tool]) if tool == 'rg' else output(tool, tools[tool])
         if tool == 'pcre2' and told != text and sorted_rows(tools[tool]) != sorted_rows(tools['rematch']):
             found.append('`pcre2`: OTHER ROWS')
         if rows != total:
-            found.append('`%s` %.3g%%' % (tool, 100 * rows / max(total, 1)))
+            share = '%.3g%%' % (100 * rows / max(total, 1))
+            found.append('`%s` %s' % (tool, '%+d' % (rows - total) if share == '100%' else share))
     return total, ', '.join(found) or '-'
 
 
