@@ -198,8 +198,9 @@ class Planting:
         self.pick = pick
         self.formulas = [[one for part in parts for one in part.inside or (part,)] for parts in formulas]
         self.edges = [part.sample for parts in self.formulas for part in parts if not part.runs and len(part.sample) == 1]
+        self.edges += [one.edge_bytes[0] for one in drawn]  # so that no run takes the whole document
         self.common = [text for one in drawn for text in one.common]
-        self.bases = ''.join(one.bases for one in drawn)
+        self.bases = ''.join(one.bases for one in drawn) if all(one.bases for one in drawn) else ''
         self.places = []  # where a match or a near miss begins or a text of one, and how long it is
 
     def match(self):
