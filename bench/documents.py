@@ -12,11 +12,18 @@
     bench/documents.py bases BYTES         bases, without lines
     bench/documents.py letters BYTES       letters a and b, with a c about every 1,000 bytes
     bench/documents.py scripts BYTES       words of five scripts, a script a line
+    bench/documents.py few_logins BYTES    a log of workers in which one line of 2,000 is a login
+    bench/documents.py many_logins BYTES   the same, with a login in one line of three
+    bench/documents.py auth BYTES          a log of a system: sshd, cron, the kernel, an application
+    bench/documents.py access BYTES        a log of a web server
+    bench/documents.py fasta BYTES         bases, sixty a line, with a header each 20,000 lines
+    bench/documents.py corpus BYTES        sentences of English words among made ones
 
 --seed S (1 where none is given) changes all but log and same. The document goes to standard output.
 Python 3.8, standard library.
 """
 import argparse
+import itertools
 import random
 import sys
 
@@ -138,7 +145,122 @@ def scripts(size, seed):
         yield line
 
 
-KINDS = {f.__name__: f for f in (log, sparse, text, dna, errors, runs, same, sentences, bases, letters, scripts)}
+# The documents of bench/users_queries.tsv. They end with the first line that reaches the size.
+
+USERS = ['u%d' % i for i in range(500)] + ['root', 'admin', 'alice', 'bob_1', 'carol', 'deploy', 'www']
+
+
+def up_to(size, lines):
+    made = 0
+    for line in lines:
+        yield line
+        made += len(line)
+        if made >= size:
+            return
+
+
+def address(pick):
+    return '%d.%d.%d.%d' % (pick.randrange(1, 255), pick.randrange(256), pick.randrange(256), pick.randrange(256))
+
+
+def clock(second):
+    return '%02d:%02d:%02d' % (second // 3600 % 24, second // 60 % 60, second % 60)
+
+
+def few_logins(size, seed):
+    return up_to(size, logins(.0005, seed))
+
+
+def many_logins(size, seed):
+    return up_to(size, logins(.34, seed))
+
+
+def logins(share, seed):
+    pick = random.Random(seed)
+    others = ['worker %d took %dms queue=%d state=%s' % (
+        pick.randrange(64), pick.randrange(5000), pick.randrange(100), pick.choice(['idle', 'busy', 'closing'])) for _ in range(5000)]
+    for second in itertools.count(1):
+        if pick.random() < share:
+            what = '%s logged in from %s' % (pick.choice(USERS), address(pick))
+        else:
+            what = pick.choice(others)
+        yield '2026-11-%02d %s %s\n' % (second // 86400 % 28 + 1, clock(second), what)
+
+
+def auth(size, seed):
+    return up_to(size, auth_lines(random.Random(seed)))
+
+
+def auth_lines(pick):
+    for second in itertools.count(1):
+        front = 'Nov %2d %s host%d ' % (second // 86400 % 28 + 1, clock(second), pick.randrange(8))
+        yield front + auth_message(pick, second) + '\n'
+
+
+def auth_message(pick, second):
+    kind = pick.random()
+    if kind < .04:
+        return 'sshd[%d]: Failed password for %s%s from %s port %d ssh2' % (
+            pick.randrange(1000, 40000), pick.choice(['', '', 'invalid user ']), pick.choice(USERS), address(pick), pick.randrange(1024, 65536))
+    if kind < .06:
+        return 'sshd[%d]: Accepted publickey for %s from %s port %d ssh2: RSA SHA256:%x' % (
+            pick.randrange(1000, 40000), pick.choice(USERS), address(pick), pick.randrange(1024, 65536), pick.getrandbits(128))
+    if kind < .061:
+        return 'kernel: [%d.%06d] nfs: server %s not responding, timeout' % (second, pick.randrange(10**6), pick.choice(['fs1', 'fs2']))
+    if kind < .3:
+        return 'systemd[1]: Started Session %d of user %s.' % (pick.randrange(100000), pick.choice(USERS))
+    if kind < .5:
+        return 'CRON[%d]: (root) CMD (command -v debian-sa1 > /dev/null && debian-sa1 1 1)' % pick.randrange(1000, 40000)
+    return 'app[%d]: request id=%d took %dms rc=%d' % (
+        pick.randrange(1000, 40000), pick.randrange(10**6), int(pick.expovariate(1 / 200.)), pick.choice([0, 0, 0, 1]))
+
+
+def access(size, seed):
+    return up_to(size, access_lines(random.Random(seed)))
+
+
+def access_lines(pick):
+    paths = ['/', '/index.html', '/search?q=%d', '/static/site.css', '/api/items/%d', '/img/%d.png']
+    agents = ['Mozilla/5.0 (X11; Linux x86_64) AppleWebKit/537.36', 'curl/7.88.1', 'Googlebot/2.1 (+http://www.google.com/bot.html)']
+    states = [200] * 90 + [304] * 5 + [404] * 4 + [500, 502]
+    for second in itertools.count(1):
+        path = pick.choice(paths)
+        path = path % pick.randrange(100000) if '%d' in path else path
+        yield '%s - - [%02d/Nov/2026:%s +0000] "%s %s HTTP/1.1" %d %d "-" "%s"\n' % (
+            address(pick), second // 86400 % 28 + 1, clock(second), pick.choice(['GET', 'GET', 'GET', 'POST']), path,
+            pick.choice(states), pick.randrange(100000), pick.choice(agents))
+
+
+def fasta(size, seed):
+    return up_to(size, fasta_lines(random.Random(seed)))
+
+
+def fasta_lines(pick):
+    for number in itertools.count(1):
+        yield '>chr%d\n' % number
+        for _ in range(20000):
+            yield ''.join(pick.choices('ACGT', k=60)) + '\n'
+
+
+COMMON = WORDS + 'going making being colour color grey gray centre center'.split()
+SYLLABLES = '''ba be bi bo bu da de di do du fa fe ga ge ka ke ki ko la le li lo lu ma me mi mo mu na ne ni no nu pa pe po
+    ra re ri ro ru sa se si so su ta te ti to tu va ve vi wa we za ing er ed ly tion ment ness al'''.split()
+
+
+def corpus(size, seed):
+    return up_to(size, corpus_sentences(random.Random(seed)))
+
+
+def corpus_sentences(pick):
+    rare = [''.join(pick.choices(SYLLABLES, k=pick.randrange(2, 5))) for _ in range(40000)]
+    while True:
+        words = ' '.join(pick.choice(COMMON) if pick.random() < .6 else rare[min(int(pick.paretovariate(.7)), 39999)]
+                         for _ in range(pick.randrange(6, 22)))
+        yield words[0].upper() + words[1:] + pick.choice(['.', '.', '.', '?', ',']) + pick.choice([' ', ' ', '\n'])
+
+
+KINDS = {f.__name__: f for f in (log, sparse, text, dna, errors, runs, same, sentences, bases, letters, scripts, few_logins, many_logins,
+                                 auth, access, fasta, corpus)}
 
 
 def write(kind, size, seed, out):

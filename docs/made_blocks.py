@@ -8,6 +8,7 @@ import importlib.machinery
 import importlib.util
 import os
 import re
+import statistics
 import sys
 import textwrap
 
@@ -244,6 +245,12 @@ def gate(_):
     return table(['Crate', 'Proof', 'Tests', 'Edits', 'Time of edits', 'Proved again', 'Minutes of that'], rows)
 
 
+def seconds(cell):
+    """The seconds of a cell such as `0.046, 34.5%`, or None where it has none."""
+    found = re.match(r'[\d.]+(?=,|$)', cell)
+    return float(found[0]) if found else None
+
+
 def speed(_):
     """Four workloads of the tables `workloads` and `other_tools`, beside two tools."""
     ours, others = measured.read('workloads'), measured.read('other_tools')
@@ -255,7 +262,48 @@ def speed(_):
             other = by[letter]
             rows.append([what, row[1], other['rematch'], other['`pcre2`, all rows'], other['`rg`']])
     return table(['Document', 'Rows', 'rematch', 'PCRE2, made to return all rows', 'ripgrep'], rows) + '\n\n' + wrapped(
-        '*%s* [All workloads](bench/README.md#the-program).' % ours.caption(), 120)
+        '*%s* %s [All workloads](bench/README.md#the-program).' % (ours.caption(), sentence(faster_by_pcre2(rows))), 120)
+
+
+def faster_by_pcre2(rows):
+    """Which of these documents PCRE2 reads faster than rematch, by the beginnings of their names."""
+    names = ['*%s*' % what.split(',')[0] for what, _, ours, theirs, _ in rows if (seconds(theirs) or 1e9) < (seconds(ours) or 0)]
+    return 'PCRE2 is faster than rematch on ' + (', '.join(names[:-1]) + ' and ' + names[-1] if names[1:] else names[0] if names else 'none')
+
+
+# --- Queries that users write --------------------------------------------------------------------
+
+def users(_):
+    """The queries of users beside other tools, with their instructions for each byte."""
+    found, counted = measured.read('users_queries'), measured.read('users_instructions')
+    by = dict(counted.rows)
+    at = len(found.columns) - 1
+    rows = [[cell.replace('|', '\\|') for cell in row[1:at] + [by.get(row[0], '-')] + row[at:]] for row in found.rows]
+    return table(found.columns[1:at] + ['Instructions a byte'] + found.columns[at:], rows) + '\n\n' + '\n'.join(
+        wrapped('*%s* %s' % (one.caption(), one.facts.get('note', ''))) for one in (found, counted))
+
+
+def beside(_):
+    """How often ripgrep and PCRE2 are faster than rematch on the queries of users, and how often ripgrep has all rows."""
+    found = measured.read('users_queries')
+    rows = [dict(zip(found.columns, row)) for row in found.rows]
+    ripgrep = [row for row in rows if is_faster(row, '`rg`')]
+    complete = [row for row in rows if seconds(row['`rg`']) and '`rg`' not in row['What fails or loses rows']]
+    pcre2 = [row for row in rows if is_faster(row, '`pcre2`, all rows')]
+    return wrapped('Of the %d queries that users write, ripgrep is faster on %d (%.1f times at the median), and returns all rows on %d. '
+                   'PCRE2, made to return all rows, is faster on %d (%.1f times at the median): [the table](bench/README.md#queries-that-users-write).' % (
+                       len(rows), len(ripgrep), median_gain(ripgrep, '`rg`'), len(complete), len(pcre2), median_gain(pcre2, '`pcre2`, all rows')), 120)
+
+
+def is_faster(row, tool):
+    return (seconds(row[tool]) or 1e9) < seconds(row['rematch'])
+
+
+def median_gain(rows, tool):
+    return statistics.median(seconds(row['rematch']) / seconds(row[tool]) for row in rows) if rows else 1
+
+
+# --- Hard queries, and the checked file ----------------------------------------------------------
 
 
 def hostile(_):
@@ -288,8 +336,8 @@ def headline(_):
     return '\n'.join(lines)
 
 
-BLOCKS = {'again': again, 'drawing': drawing, 'edges': edges, 'libraries': libraries, 'counts': counts, 'believe': believe, 'figures': figures,
-          'gate': gate, 'gate_sums': gate_sums, 'headline': headline, 'hostile': hostile, 'speed': speed}
+BLOCKS = {'again': again, 'beside': beside, 'drawing': drawing, 'edges': edges, 'libraries': libraries, 'counts': counts, 'believe': believe, 'figures': figures,
+          'gate': gate, 'gate_sums': gate_sums, 'headline': headline, 'hostile': hostile, 'speed': speed, 'users': users}
 
 
 # --- Pages ---------------------------------------------------------------------------------------
