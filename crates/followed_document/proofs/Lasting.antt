@@ -19,7 +19,7 @@ use Rattle.one_pass.proofs.ReadWords.{leads_then, then_leads}
 use Rattle.one_pass.specs.Settling.{IsSettledSet}
 use Rattle.followed_document.specs.Settling.{AllBytes, IsGivenIn, Settles, joined, no_more, whole}
 use Rattle.settled_states.specs.States.{AreLasting, AreSpent, Told}
-use Rattle.followed_document.specs.Laws.{SettledLaw}
+use Rattle.followed_document.specs.Laws.{FollowLaw, SettledLaw, StaysGiven}
 use Rattle.followed_document.proofs.Choices.{bytes_then}
 use Rattle.followed_document.proofs.Following.{bytes_both, bytes_right, follow_law}
 
@@ -118,9 +118,15 @@ module _ (A : Automaton) (Y : ℕ → Type 0) (lasting : AreLasting A Y) where
         (leads_then A (bytes_at i p) (whole (i + length p) (joined ps ++ more)) from [] h.0 h.1 h.2 h.3
         (given_whole (i + length p) ps h.0 h.2 more (bytes_right p (joined ps) bs) bm h.4)))
 
+-- the law, by any predicates
+module _ (A : Automaton) (X Y : ℕ → Type 0) (spent : AreSpent A X) (lasting : AreLasting A Y) where
+  pub settled_follow : FollowLaw A (IsSettledSet X Y)
+  settled_follow =
+      follow_law A (IsSettledSet X Y) (λ set g. lasting_ends A Y lasting set g.1)
+      (λ d more u v on bd bm lead g tail. spent_whole A X spent (0 + length d) more on v g.0 tail)
+
+  pub settled_stays : StaysGiven A (IsSettledSet X Y)
+  settled_stays ps p w bs bp g = given_whole A Y lasting (IsSettledSet X Y) (λ set h. h.1) 0 ps (set_of A.starts) w p bs bp g
+
 pub settled_law : SettledLaw
-settled_law A x y spent lasting = (
-  follow_law A (IsSettledSet (Told x) (Told y)) (λ set g. lasting_ends A (Told y) lasting set g.1)
-      (λ d more u v on bd bm lead g tail. spent_whole A (Told x) spent (0 + length d) more on v g.0 tail),
-  λ ps p w bs bp g. given_whole A (Told y) lasting (IsSettledSet (Told x) (Told y)) (λ set h. h.1) 0 ps (set_of A.starts) w p bs bp g,
-)
+settled_law A x y spent lasting = (settled_follow A (Told x) (Told y) spent lasting, settled_stays A (Told x) (Told y) spent lasting)

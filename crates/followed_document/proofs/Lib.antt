@@ -5,3 +5,8 @@ pub mod Going
 pub mod Lasting
 pub mod Shifting
 pub mod Steps
+pub mod Accepting
+pub mod Behind
+pub mod Counted
+pub mod ShiftedRows
+pub mod Pieces

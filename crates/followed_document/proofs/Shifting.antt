@@ -8,18 +8,18 @@ use Rattle.one_pass.specs.Places.{Leads, bytes_at}
 use Rattle.followed_document.specs.Settling.{shift}
 use Rattle.followed_document.specs.Laws.{ShiftLaw}
 
-shift_append : (k : ℕ) (u v : Word) → shift k (u ++ v) ≡ shift k u ++ shift k v
+pub shift_append : (k : ℕ) (u v : Word) → shift k (u ++ v) ≡ shift k u ++ shift k v
 shift_append k [] v = refl
 shift_append k (b ∷ u) v = ap (λ (w : Word). let c : ℕ × ℕ = (b.0 + k, b.1) in c ∷ w) (shift_append k u v)
 
-shift_block : (k i m : ℕ) → shift k (mark_block i m) ≡ mark_block (i + k) m
+pub shift_block : (k i m : ℕ) → shift k (mark_block i m) ≡ mark_block (i + k) m
 shift_block k i m = go (nat_eq m 0)
   where
     go : (c : Bool) → shift k (let w : Word = if c then [] else (i, m) ∷ [] in w) ≡ (let w : Word = if c then [] else (i + k, m) ∷ [] in w)
     go true = refl
     go false = refl
 
-later : (A : Automaton) (k i : ℕ) (d from : List ℕ) (u : Word) (to : List ℕ) → Leads A (bytes_at i d) from u to → Leads A (bytes_at (i + k) d) from (shift k u) to
+pub later : (A : Automaton) (k i : ℕ) (d from : List ℕ) (u : Word) (to : List ℕ) → Leads A (bytes_at i d) from u to → Leads A (bytes_at (i + k) d) from (shift k u) to
 later A k i [] from u to h = (ap (shift k) h.0, h.1)
 later A k i (b ∷ d) from u to h =
     let e : suc i + k ≡ suc (i + k) = omega arith in (
@@ -30,7 +30,7 @@ later A k i (b ∷ d) from u to h =
       subst (λ j. Leads A (bytes_at j d) h.0.to (shift k h.2) to) e (later A k (suc i) d h.0.to h.2 to h.4),
     )
 
-earlier : (A : Automaton) (k i : ℕ) (d from : List ℕ) (w : Word) (to : List ℕ) → Leads A (bytes_at (i + k) d) from w to → (u : Word) × Leads A (bytes_at i d) from u to × (shift k u ≡ w)
+pub earlier : (A : Automaton) (k i : ℕ) (d from : List ℕ) (w : Word) (to : List ℕ) → Leads A (bytes_at (i + k) d) from w to → (u : Word) × Leads A (bytes_at i d) from u to × (shift k u ≡ w)
 earlier A k i [] from w to h = ([], (refl, h.1), sym h.0)
 earlier A k i (b ∷ d) from w to h =
     let e : suc (i + k) ≡ suc i + k = omega arith in

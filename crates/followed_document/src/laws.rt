@@ -1,6 +1,7 @@
 //! Laws of what is given piece by piece, each the contract of a function that does nothing.
 ghost use Rattle.followed_document.specs.Goes.{NothingGoes};
 ghost use Rattle.followed_document.specs.Laws.{FollowedLaw, FullWordsEnd, SettledLaw, ShiftLaw};
+ghost use Rattle.followed_document.specs.PieceLaws.{PieceLaw};
 ghost use Rattle.followed_document.specs.Steps.{RebaseLaw, StepLaw};
 
 /// The word of a row that has a span for each variable goes on as that of no other.
@@ -39,4 +40,9 @@ pub fn an_append_takes_the_pieces_on()
 /// Where one cell is live at most, nothing in the graph speaks of a position, and reading may go on as if it stood at 0.
 pub fn one_cell_stands_anywhere()
     ensures { RebaseLaw }
+{}
+
+/// The same of a document whose front is forgotten: its words count from a base, and those that are listed are the words of rows.
+pub fn a_piece_is_followed_from_any_base()
+    ensures { PieceLaw }
 {}
